@@ -1,6 +1,6 @@
 -- What is seen of a source and of a sink, and what their calls do to it.
-use Rattle.std.specs.Prelude.{◌≡◌, ℕ, ◌<◌, ◌≤◌, Bool, List, [], ◌++◌, length, take, Option, Some, None, Result, Ok, Err, IfOk, MatchResult, ⊤}
-use Rattle.std.specs.Io.KnownBytes.{Keeps, Appends, Consumes, ReadConsumes, WriteAppends}
+use Rattle.std.specs.Prelude.{◌≡◌, ℕ, ◌<◌, ◌≤◌, Bool, List, [], ◌++◌, length, take, Option, Some, None, Result, Ok, Err, IfOk, MatchResult, ⊤, ◌⊎◌}
+use Rattle.std.specs.Io.KnownBytes.{Keeps, Appends, Consumes, IsAtEnd, ReadConsumes, WriteAppends}
 use Rattle.outside_traits.specs.Faults.{HasCause}
 
 -- what is seen of a source: the bytes that it gave and those that are left, where it tells, and its count of faults
@@ -36,4 +36,12 @@ AppendsFront old new bytes = (front : List ℕ) × (rest : List ℕ) × (bytes �
 -- what writing all of these bytes does: the sink holds them, or a front of them after a fault
 pub record WritesAll {T E : Type 0} (old new : SinkView) (answer : Result T E) (bytes : List ℕ) : Type 0 where
   pub holds : MatchResult answer (λ _. Appends old.holds new.holds bytes) (λ _. AppendsFront old.holds new.holds bytes)
+  pub cause : HasCause old.faults new.faults answer
+
+-- what reading until the place is full or the input ends does: the bytes at its front are the next ones
+pub record Fills {E : Type 0} (old new : SourceView) (answer : Result ℕ E) (into : List ℕ) : Type 0 where
+  pub within : IfOk answer (λ n. n ≤ length into)
+  pub given : IfOk answer (λ n. Appends old.given new.given (take n into))
+  pub left : IfOk answer (λ n. Consumes old.left new.left (take n into))
+  pub full_or_end : IfOk answer (λ n. (n ≡ length into) ⊎ IsAtEnd new.left)
   pub cause : HasCause old.faults new.faults answer

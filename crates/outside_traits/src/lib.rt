@@ -18,6 +18,6 @@ pub use blob::Blob;
 pub use failed::{Failed, Memory};
 pub use memory::{MemSink, MemSource};
 pub use sink::{Sink, write_all};
-pub use source::Source;
+pub use source::{Source, fill};
 pub use standard::{StdSink, StdSource};
 pub use sure::{SureSink, SureSource};

@@ -1,0 +1,4 @@
+//! BLAKE2b
+#![tactic(auto)]
+
+mod compress;

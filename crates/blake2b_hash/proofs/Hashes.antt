@@ -15,4 +15,5 @@ length-blake2b nn key message fits = length-take-le nn _ fits
 
 -- a hash has 32 bytes
 pub length-hash_of : (message : List ℕ) → length (hash_of message) ≡ 32
+unfolding hash_of
 length-hash_of message = length-blake2b 32 [] message (lit≤ tt)

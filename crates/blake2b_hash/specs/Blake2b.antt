@@ -130,5 +130,5 @@ unfoldable pub blake2b : ℕ → List ℕ → List ℕ → List ℕ
 blake2b nn key message = take nn (bytes_of (last_state (first_state nn (length key)) (input key message)))
 
 -- the hash of 32 bytes, with no key
-abbrev pub hash_of : List ℕ → List ℕ
+unfoldable pub hash_of : List ℕ → List ℕ
 hash_of message = blake2b 32 [] message

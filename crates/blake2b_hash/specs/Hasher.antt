@@ -26,6 +26,5 @@ pub record TakesWhole (nn : ℕ) (i x : List ℕ) (hasher : Blake2b) : Type 0 wh
   pub state : hasher.h ≡ state_after i x (length x / 128)
 
 -- the hasher is to give nn bytes of hash, and holds this message under the key
-pub record Holds (nn : ℕ) (key message : List ℕ) (hasher : Blake2b) : Type 0 where
-  pub within : nn ≤ MAX_OUT_BYTES
-  pub takes : Takes nn (first_state nn (length key)) (input key message) hasher
+unfoldable pub Holds : ℕ → List ℕ → List ℕ → Blake2b → Type 0
+Holds nn key message hasher = (nn ≤ MAX_OUT_BYTES) × Takes nn (first_state nn (length key)) (input key message) hasher

@@ -14,6 +14,6 @@ unfolding F last_state blake2b
 length-blake2b nn key message fits = length-take-le nn _ fits
 
 -- a hash has 32 bytes
-pub length-hash_of : (message : List ℕ) → length (hash_of message) ≡ 32
+pub length_hash_of : (message : List ℕ) → length (hash_of message) ≡ 32
 unfolding hash_of
-length-hash_of message = length-blake2b 32 [] message (lit≤ tt)
+length_hash_of message = length-blake2b 32 [] message (lit≤ tt)

@@ -1,5 +1,5 @@
 -- Hashes that RFC 7693 or another implementation gives, so that a wrong constant, order or padding in the definitions does not check.
-use Rattle.std.proofs.Common.{◌≡◌, ℕ, List, [], ◌∷◌, codes, replicate, refl}
+use Rattle.std.proofs.Common.{◌≡◌, [], ◌∷◌, codes, replicate, refl}
 use Rattle.blake2b_hash.specs.Blake2b.{G, round, rounds, F, words, state_after, last_state, blake2b, hash_of}
 
 -- RFC 7693, appendix A

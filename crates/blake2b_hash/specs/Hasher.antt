@@ -1,5 +1,5 @@
 -- What a hasher holds of its input (RFC 7693, section 3.3), however the input was cut.
-use Rattle.std.specs.Prelude.{◌≡◌, ℕ, ◌+◌, ◌-◌, ◌*◌, ◌/◌, ◌%◌, ◌^◌, ◌<◌, ◌≤◌, Bool, List, length, take, drop}
+use Rattle.std.specs.Prelude.{◌≡◌, ℕ, ◌-◌, ◌*◌, ◌/◌, ◌%◌, ◌^◌, ◌<◌, ◌≤◌, List, length, take, drop}
 use Rattle.std.specs.Bool.{IsTrue, IsFalse}
 use Rattle.blake2b_hash.specs.Blake2b.{first_state, state_after, blocks_before, input}
 use Rattle.blake2b_hash.specs.declared.hasher.Blake2b.{Blake2b}

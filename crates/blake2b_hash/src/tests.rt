@@ -86,7 +86,13 @@ fn gives_one_value_for_every_cut(rt: HostRuntime) -> Result<(), Fail> {
             let key = sequence(key_bytes as u32);
             let whole = hash_cut(64, &key[..key_bytes], &bytes[..len], 0, MAX_BYTES)?;
             let singly = hash_cut(64, &key[..key_bytes], &bytes[..len], 0, 1)?;
-            let late = hash_cut(64, &key[..key_bytes], &bytes[..len], len.min(127), MAX_BYTES)?;
+            let late = hash_cut(
+                64,
+                &key[..key_bytes],
+                &bytes[..len],
+                len.min(127),
+                MAX_BYTES,
+            )?;
             assert_eq!(rt; singly, whole);
             assert_eq!(rt; late, whole);
             all.update(&whole);

@@ -1,4 +1,4 @@
-use Rattle.std.proofs.Common.{◌≡◌, List, ℕ, map, ap, ◌∙◌, [], ◌∷◌, refl}
+use Rattle.std.proofs.Common.{◌≡◌, List, ℕ, map, ap, [], ◌∷◌}
 use Rattle.blake2b_hash.specs.Blake2b.{F, fold_word, local_words, rounds, words}
 use Rattle.blake2b_hash.proofs.compress.compress.Goals as goal
 

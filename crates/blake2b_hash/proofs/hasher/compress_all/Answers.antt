@@ -1,4 +1,4 @@
-use Rattle.std.proofs.Common.{◌≡◌, ℕ, List, ◌+◌, ◌*◌, ◌-◌, ◌∙◌, ◌++◌, length, length-append, length-drop, take, drop, arith, refl}
+use Rattle.std.proofs.Common.{◌≡◌, ℕ, List, ◌+◌, ◌*◌, ◌-◌, ◌∙◌, length, length-append, length-drop, take, drop, arith}
 use Rattle.std.proofs.lemmas.List.{length-take-le}
 use Rattle.blake2b_hash.proofs.Pieces.{state_after-next, take-block}
 use Rattle.blake2b_hash.proofs.hasher.compress_all.Goals as goal

@@ -10,4 +10,4 @@ returns c = λ nn i x held at some.
     let old = c.args.self.now in
     let fill = last_bytes (length x) in
     Takes-keep nn i x bytes old _ held (omega (arith, c.requires)) some refl refl refl refl
-        (rw (c.copy_from_slice.ensures.after, at) (take-put_mid fill _ old.buffer bytes (fill + length bytes) refl (omega (arith, c.requires))))
+    (rw (c.copy_from_slice.ensures.after, at) (take-put_mid fill _ old.buffer bytes (fill + length bytes) refl (omega (arith, c.requires))))

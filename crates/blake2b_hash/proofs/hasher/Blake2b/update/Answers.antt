@@ -1,4 +1,4 @@
-use Rattle.std.proofs.Common.{rules, ◌≡◌, ℕ, List, ◌∙◌, ◌<◌, ◌++◌, length, ap, arith}
+use Rattle.std.proofs.Common.{rules, ◌≡◌, ℕ, List, ◌∙◌, ◌<◌, ◌++◌, length, ap}
 use Rattle.std.proofs.lemmas.List.{append_assoc, take-append-drop}
 use Rattle.blake2b_hash.specs.Blake2b.{input}
 use Rattle.blake2b_hash.proofs.Pieces.{Holds-append, TakesWhole-none}
@@ -16,7 +16,7 @@ unfolding Holds
 returns-then-bytes-fill c = λ nn key message held.
     let some : 0 < length c.args.bytes.now = search rules in
     Holds-append nn key message c.args.bytes.now _ held.0
-        (c.keep.ensures _ _ _ held.1 (c.fill-fill.ensures.fill _ _ _ held.1) some)
+    (c.keep.ensures _ _ _ held.1 (c.fill-fill.ensures.fill _ _ _ held.1) some)
 
 pub returns : goal.returns
 unfolding Holds

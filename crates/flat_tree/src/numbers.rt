@@ -1,0 +1,91 @@
+ghost use Rattle.std.specs.Prelude.{ℕ, ◌≡◌, ◌<◌, ◌≤◌, ◌+◌, ◌-◌, ◌*◌, ◌/◌, ◌%◌, ◌^◌};
+ghost use Rattle.flat_tree.specs.Subtrees.{number, first_block_of, end_block_of};
+
+use crate::limits::{MAX_DEPTH, MAX_NODE};
+
+/// The node of a subtree.
+pub fn index(depth: u32, offset: u64) -> u64
+    requires depth { depth ≤ MAX_DEPTH }
+    requires offset { offset ≤ 2 ^ (MAX_DEPTH - depth) }
+    ensures number { result ≡ number depth offset }
+    ensures fits { result ≤ MAX_NODE }
+{
+    (((2 * offset) + 1) << depth) - 1
+}
+
+/// How many rows a node stands above the leaves: the number of its trailing one bits.
+pub fn depth(node: u64) -> u32
+    requires within { node ≤ MAX_NODE }
+    ensures depth { (depth offset : ℕ) → node ≡ number depth offset → result ≡ depth }
+    ensures some { (offset : ℕ) × (node ≡ number result offset) }
+    ensures fits { result < 63 }
+{
+    node.trailing_ones()
+}
+
+/// A node's place in its row.
+pub fn offset(node: u64) -> u64
+    requires within { node ≤ MAX_NODE }
+    ensures offset { (depth offset : ℕ) → node ≡ number depth offset → result ≡ offset }
+    ensures some { (depth : ℕ) × (node ≡ number depth result) }
+    ensures fits { result ≤ node }
+{
+    node >> depth(node) >> 1
+}
+
+/// The node of the subtree that a node's subtree is half of.
+pub fn parent(node: u64) -> u64
+    requires within { node ≤ MAX_NODE }
+    ensures parent { (depth offset : ℕ) → node ≡ number depth offset
+        → result ≡ number (depth + 1) (offset / 2) }
+    ensures fits { result ≤ 2 * node + 1 }
+{
+    let half = 1u64 << depth(node);
+    if offset(node) % 2 == 0 {
+        node + half
+    } else {
+        node - half
+    }
+}
+
+/// The node of the other half of the parent's subtree.
+pub fn sibling(node: u64) -> u64
+    requires within { node ≤ MAX_NODE }
+    ensures sibling { (depth offset : ℕ) → node ≡ number depth offset
+        → result ≡ number depth (offset + 1 - 2 * (offset % 2)) }
+    ensures fits { result ≤ 3 * node + 2 }
+{
+    let step = 2u64 << depth(node);
+    if offset(node) % 2 == 0 {
+        node + step
+    } else {
+        node - step
+    }
+}
+
+/// The nodes of a subtree's left and right half; a leaf has none.
+pub fn children(node: u64) -> Option<(u64, u64)>
+    requires within { node ≤ MAX_NODE }
+    ensures leaf { (offset : ℕ) → node ≡ number 0 offset → result ≡ None }
+    ensures halves { (depth offset : ℕ) → node ≡ number (depth + 1) offset
+        → result ≡ Some (number depth (2 * offset), number depth (2 * offset + 1)) }
+{
+    let depth = depth(node);
+    if depth == 0 {
+        return None;
+    }
+    let half = 1u64 << (depth - 1);
+    Some((node - half, node + half))
+}
+
+/// The first and the last leaf under a node, which are twice its first and its last block.
+pub fn spans(node: u64) -> (u64, u64)
+    requires within { node ≤ MAX_NODE }
+    ensures first { (depth offset : ℕ) → node ≡ number depth offset
+        → result.0 ≡ 2 * first_block_of depth offset }
+    ensures last { (depth offset : ℕ) → node ≡ number depth offset
+        → result.1 + 2 ≡ 2 * end_block_of depth offset }
+{
+    let reach = (1u64 << depth(node)) - 1;
+    (node - reach, node + reach)
+}

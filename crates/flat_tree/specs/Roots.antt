@@ -1,6 +1,6 @@
 -- The full roots of a number of blocks: the perfect subtrees of its binary digits, largest first, left
 -- to right; and which of them is over a block.
-use Rattle.std.specs.Prelude.{ℕ, List, [], ◌∷◌, ◌<◌, ◌+◌, ◌-◌, ◌/◌, ◌%◌, ◌^◌, if◌then◌else◌, nat_eq, nat_lt}
+use Rattle.std.specs.Prelude.{ℕ, zero, suc, List, [], ◌∷◌, ◌<◌, ◌+◌, ◌-◌, ◌/◌, ◌%◌, ◌^◌, if◌then◌else◌, nat_eq, nat_lt}
 use Rattle.flat_tree.specs.Subtrees.{Subtree, subtree, end_block_of}
 
 -- the subtrees of the digits below a place: a digit that is one gives the subtree of that depth after

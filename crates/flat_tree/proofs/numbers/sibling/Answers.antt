@@ -1,0 +1,35 @@
+use Rattle.std.proofs.Common.{ℕ, ◌+◌, ◌-◌, ◌*◌, ◌/◌, ◌%◌, ◌<◌, ◌≤◌, ◌^◌, ◌≡◌, ◌∙◌, ap, sym, arith}
+use Rattle.flat_tree.specs.Subtrees.{number}
+use Rattle.flat_tree.proofs.NumberLemmas.{shl_two, sibling_of_left, sibling_of_right, reach_below}
+use Rattle.flat_tree.proofs.numbers.sibling.Goals as goal
+
+pub overflow_add-result : goal.overflow_add-result
+overflow_add-result c =
+    let some = c.depth.ensures.some in
+    let step = shl_two c.depth.result c.depth.result (c.depth.ensures.depth c.depth.result some.0 some.1) c.depth.ensures.fits in
+    omega (arith, step, some.1, reach_below c.depth.result some.0)
+
+pub overflow_sub-result : goal.overflow_sub-result
+overflow_sub-result c =
+    let some = c.depth.ensures.some in
+    let step = shl_two c.depth.result c.depth.result (c.depth.ensures.depth c.depth.result some.0 some.1) c.depth.ensures.fits in
+    let place = c.offset.ensures.offset c.depth.result some.0 some.1 in
+    omega (arith, step, some.1, sibling_of_right c.depth.result some.0, place)
+
+pub returns-then-offset-eq0-clause-sibling : goal.returns-then-offset-eq0-clause-sibling
+returns-then-offset-eq0-clause-sibling c d o is =
+    let step = shl_two c.depth.result d (c.depth.ensures.depth d o is) c.depth.ensures.fits in
+    let place = c.offset.ensures.offset d o is in
+    omega (arith, step, is, sibling_of_left d o, place)
+
+pub returns-then-offset-eq0-clause-fits : goal.returns-then-offset-eq0-clause-fits
+returns-then-offset-eq0-clause-fits c =
+    let some = c.depth.ensures.some in
+    let step = shl_two c.depth.result c.depth.result (c.depth.ensures.depth c.depth.result some.0 some.1) c.depth.ensures.fits in
+    omega (arith, step, some.1, reach_below c.depth.result some.0)
+
+pub returns-else-offset-eq0-clause-sibling : goal.returns-else-offset-eq0-clause-sibling
+returns-else-offset-eq0-clause-sibling c d o is =
+    let step = shl_two c.depth.result d (c.depth.ensures.depth d o is) c.depth.ensures.fits in
+    let place = c.offset.ensures.offset d o is in
+    omega (arith, step, is, sibling_of_right d o, place)

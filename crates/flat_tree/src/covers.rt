@@ -1,0 +1,29 @@
+ghost use Rattle.std.specs.Prelude.{ℕ, List, ◌≡◌, ◌<◌, ◌≤◌, ◌+◌, length};
+ghost use Rattle.flat_tree.specs.Subtrees.{Subtree, numbers_of, Tile};
+ghost use Rattle.flat_tree.specs.Covers.{cover_of};
+
+use crate::limits::{MAX_BLOCKS, MAX_COUNT, MAX_UPGRADE_NODES};
+use crate::room_list::{Places, RoomList};
+
+/// The nodes of the fewest subtrees that have the blocks `from..to`, left to right: each the largest
+/// that begins at its place and ends within the range.
+pub fn cover(from: u64, to: u64) -> Places
+    requires ordered { from ≤ to }
+    requires within { to ≤ MAX_COUNT }
+    ensures numbers { result ≡ numbers_of (cover_of from to) }
+    ensures tiles { Tile (cover_of from to) from to }
+    ensures shortest { (trees : List Subtree) → Tile trees from to
+        → length (cover_of from to) ≤ length trees }
+    ensures only { (trees : List Subtree) → Tile trees from to
+        → length trees ≤ length (cover_of from to) → trees ≡ cover_of from to }
+    ensures few { to ≤ MAX_BLOCKS → length (cover_of from to) ≤ MAX_UPGRADE_NODES }
+{
+    let mut places = RoomList::new(0);
+    let mut at = from;
+    while at < to {
+        let size = 1u64 << (to - at).ilog2().min(at.trailing_zeros());
+        places.push(2 * at + size - 1);
+        at += size;
+    }
+    places
+}

@@ -1,9 +1,9 @@
 -- The full roots of n blocks: they tile 0..n, fall in depth, and are the only list that does both.
 use Rattle.std.proofs.Common.{◌≡◌, ℕ, zero, suc, ◌+◌, ◌-◌, ◌*◌, ◌/◌, ◌%◌, ◌^◌, ◌<◌, ◌≤◌, ◌⊎◌, inl, inr, List, [], ◌∷◌, ◌++◌, length, refl, sym, ◌∙◌, ap, subst, arith, add-one, Bool, true, false, nat_eq, if◌then◌else◌}
 use Rattle.std.proofs.lemmas.Bool.{cases_lt, cases_eq, cases_order, eq-eqb, eqb-true}
-use Rattle.std.proofs.Math.Nat.{pow-succ', mul-div_cancel}
+use Rattle.std.proofs.Math.Nat.{pow-succ', mul-div_cancel, mod-le, mod_self}
 use Rattle.std.proofs.Math.Pow.{pow_mono, pow-lt}
-use Rattle.std.proofs.lemmas.Nat.{pow_pos, shr-shr, shr_split, mod_below}
+use Rattle.std.proofs.lemmas.Nat.{pow_pos, shr-shr, shr_split, mod_below, div_below}
 use Rattle.flat_tree.specs.Subtrees.{Subtree, subtree, number, first_block_of, end_block_of, numbers_of, Tile}
 use Rattle.flat_tree.specs.Roots.{roots_below, full_roots_of, Fall, FallBelow}
 use Rattle.flat_tree.proofs.NumberLemmas.{number-first, end-first}
@@ -14,7 +14,7 @@ start_of depth blocks = blocks / 2 ^ depth * 2 ^ depth
 
 -- a digit is one or zero
 digit : (d n : ℕ) → (n / 2 ^ d % 2 ≡ 1) ⊎ (n / 2 ^ d % 2 ≡ 0)
-digit d n = elim (cases_eq (n / 2 ^ d % 2) 1) [ inl one ↦ inl one | inr no ↦ inr (omega arith) ]
+digit d n = elim (cases_eq (n / 2 ^ d % 2) 1) [ inl one ↦ inl one | inr other ↦ inr (omega arith) ]
 
 start-one : (d n : ℕ) → n / 2 ^ d % 2 ≡ 1 → start_of d n ≡ start_of (suc d) n + 2 ^ d
 start-one d n one =
@@ -82,3 +82,137 @@ tile-fall [] bound from to falls tile = omega (arith, tile, pow_pos bound)
 tile-fall (tree ∷ trees) bound from to falls tile =
     let up : suc tree.depth ≤ bound = omega (arith, falls.0) in
     omega (arith, tile.0, end-first tree.depth tree.offset, tile-fall trees tree.depth _ to falls.1 tile.1, pow_mono up, pow-succ' 2 tree.depth)
+
+-- subtrees of one depth that begin at one block are one
+same_offset : (d o p : ℕ) → first_block_of d o ≡ first_block_of d p → o ≡ p
+unfolding first_block_of
+same_offset d o p same =
+    sym (mul-div_cancel o (pow_pos d)) ∙ ap (λ (n : ℕ). n / 2 ^ d) same ∙ mul-div_cancel p (pow_pos d)
+
+-- what tiles the blocks of the lower digits and falls is their roots
+only-roots : (d n : ℕ) (trees : List Subtree) → Tile trees (start_of d n) n → FallBelow d trees → trees ≡ roots_below d n
+unfolding roots_below
+only-roots zero n [] tile falls = refl
+only-roots zero n (tree ∷ trees) tile falls = absurd (omega (arith, falls.0))
+only-roots (suc d) n [] tile falls = elim (digit d n) [
+    inl one ↦ absurd (omega (arith, tile, start-one d n one, shr_split n d, pow_pos d))
+  | inr none ↦ only-roots d n [] (start-zero d n none ∙ tile) tt ∙ sym (roots-zero d n none)
+  ]
+only-roots (suc d) n (tree ∷ trees) tile falls = elim (digit d n) [
+    inl one ↦ elim (cases_eq tree.depth d) [
+        inl same ↦
+          let begins = ap (λ (k : ℕ). first_block_of k tree.offset) (sym same) ∙ tile.0 in
+          let place : tree.offset ≡ n / 2 ^ d - 1 = same_offset d tree.offset (n / 2 ^ d - 1) (begins ∙ sym (root_start d n one)) in
+          let is : tree ≡ subtree d (n / 2 ^ d - 1) = ap (λ (k : ℕ). subtree k tree.offset) same ∙ ap (λ (o : ℕ). subtree d o) place in
+          let ends = ap (λ (t : Subtree). end_block_of t.depth t.offset) is ∙ root_end d n one in
+          let rest = only-roots d n trees (subst (λ (b : ℕ). Tile trees b n) ends tile.1) (subst (λ (b : ℕ). FallBelow b trees) same falls.1) in
+          ap (λ (t : Subtree). t ∷ trees) is ∙ ap (λ (ts : List Subtree). subtree d (n / 2 ^ d - 1) ∷ ts) rest ∙ sym (roots-one d n one)
+      | inr lower ↦
+          let deep : tree.depth < d = omega (arith, falls.0, lower) in
+          let short = tile-fall (tree ∷ trees) d _ n (deep, falls.1) tile in
+          absurd (omega (arith, short, start-one d n one, shr_split n d))
+      ]
+  | inr none ↦ elim (cases_eq tree.depth d) [
+        inl same ↦ 
+          let size : 2 ^ tree.depth ≡ 2 ^ d = ap (λ (k : ℕ). 2 ^ k) same in
+          absurd (omega (arith, size, tile.0, end-first tree.depth tree.offset, tile-le trees _ n tile.1, start-zero d n none, shr_split n d, mod_below n (2 ^ d) (pow_pos d)))
+      | inr lower ↦
+          let deep : tree.depth < d = omega (arith, falls.0, lower) in
+          let begins = tile.0 ∙ sym (start-zero d n none) in
+          only-roots d n (tree ∷ trees) (begins, tile.1) (deep, falls.1) ∙ sym (roots-zero d n none)
+      ]
+  ]
+
+-- digits that are zero have no roots
+pub low_digits : (k d n : ℕ) → d ≤ k → n % 2 ^ k < 2 ^ d → (roots_below k n ≡ roots_below d n) × (n % 2 ^ k ≡ n % 2 ^ d)
+low_digits zero d n within small =
+    let none : 0 ≡ d = omega arith in
+    (ap (λ (b : ℕ). roots_below b n) none, ap (λ (b : ℕ). n % 2 ^ b) none)
+low_digits (suc k) d n within small = elim (cases_eq (suc k) d) [
+    inl same ↦ (ap (λ (b : ℕ). roots_below b n) same, ap (λ (b : ℕ). n % 2 ^ b) same)
+  | inr more ↦ elim (digit k n) [
+        inl one ↦
+          let lower : d ≤ k = omega (arith, within, more) in
+          absurd (omega (arith, small, start-one k n one, shr_split n k, shr_split n (suc k), pow_mono lower))
+      | inr none ↦
+          let lower : d ≤ k = omega (arith, within, more) in
+          let rest : n % 2 ^ suc k ≡ n % 2 ^ k = omega (arith, start-zero k n none, shr_split n k, shr_split n (suc k)) in
+          let least : n % 2 ^ k < 2 ^ d = omega (arith, rest, small) in
+          let further = low_digits k d n lower least in
+          (roots-zero k n none ∙ further.0, rest ∙ further.1)
+      ]
+  ]
+
+below_pow : (n : ℕ) → n < 2 ^ n
+below_pow zero = omega arith
+below_pow (suc n) = rw (pow-succ' 2 n) (omega (arith, below_pow n))
+
+-- so many digits are enough
+pub full-below : (k n : ℕ) → n < 2 ^ k → full_roots_of n ≡ roots_below k n
+unfolding full_roots_of
+full-below k n small = elim (cases_lt k n) [
+    inl fewer ↦
+      let least : n % 2 ^ n < 2 ^ k = omega (arith, small, mod-le n (2 ^ n)) in
+      (low_digits n k n (omega (arith, fewer)) least).0
+  | inr enough ↦
+      let least : n % 2 ^ k < 2 ^ n = omega (arith, below_pow n, mod-le n (2 ^ k)) in
+      sym (low_digits k n n enough least).0
+  ]
+
+pub tile-full : (n : ℕ) → Tile (full_roots_of n) 0 n
+unfolding full_roots_of
+tile-full n =
+    let high : n / 2 ^ n < 1 = div_below n (2 ^ n) 1 (pow_pos n) (omega (arith, below_pow n)) in
+    let none : n / 2 ^ n ≡ 0 = omega arith in
+    let begins : start_of n n ≡ 0 = ap (λ (k : ℕ). k * 2 ^ n) none ∙ omega arith in
+    subst (λ (from : ℕ). Tile (roots_below n n) from n) begins (tile-roots n n)
+
+fall_any : (bound : ℕ) (trees : List Subtree) → FallBelow bound trees → Fall trees
+fall_any bound [] falls = tt
+fall_any bound (tree ∷ trees) falls = falls.1
+
+pub fall-full : (n : ℕ) → Fall (full_roots_of n)
+unfolding full_roots_of
+fall-full n = fall_any n (roots_below n n) (fall-roots n n)
+
+-- a tiling's subtrees have no more blocks than there are
+fall_within : (n : ℕ) (trees : List Subtree) → Tile trees 0 n → Fall trees → FallBelow n trees
+fall_within n [] tile falls = tt
+fall_within n (tree ∷ trees) tile falls = elim (cases_lt tree.depth n) [
+    inl deep ↦ (deep, falls)
+  | inr high ↦ absurd (omega (arith, pow_mono high, below_pow n, end-first tree.depth tree.offset, tile-le trees _ n tile.1))
+  ]
+
+pub only-full : (n : ℕ) (trees : List Subtree) → Tile trees 0 n → Fall trees → trees ≡ full_roots_of n
+unfolding full_roots_of
+only-full n trees tile falls =
+    let high : n / 2 ^ n < 1 = div_below n (2 ^ n) 1 (pow_pos n) (omega (arith, below_pow n)) in
+    let none : n / 2 ^ n ≡ 0 = omega arith in
+    let begins : start_of n n ≡ 0 = ap (λ (k : ℕ). k * 2 ^ n) none ∙ omega arith in
+    only-roots n n trees (subst (λ (from : ℕ). Tile trees from n) (sym begins) tile) (fall_within n trees tile falls)
+
+length-roots : (k n : ℕ) → length (roots_below k n) ≤ k
+unfolding roots_below
+length-roots zero n = omega arith
+length-roots (suc k) n = elim (digit k n) [
+    inl one ↦ rw (roots-one k n one) (omega (arith, length-roots k n))
+  | inr none ↦ rw (roots-zero k n none) (omega (arith, length-roots k n))
+  ]
+
+-- no more roots than digits
+pub length-full : (k n : ℕ) → 0 < k → n ≤ 2 ^ k → length (full_roots_of n) ≤ k
+unfolding roots_below
+length-full k n some within = elim (cases_eq n (2 ^ k)) [
+    inl same ↦
+      let below : n < 2 ^ suc k = omega (arith, same, pow-succ' 2 k, pow_pos k) in
+      let rest : n % 2 ^ k ≡ 0 = ap (λ (m : ℕ). m % 2 ^ k) same ∙ mod_self (2 ^ k) in
+      let none = (low_digits k 0 n (omega arith) (omega (arith, rest))).0 in
+      let one : length (roots_below (suc k) n) ≤ 1 = elim (digit k n) [
+          inl one ↦ rw (roots-one k n one, none) (omega arith)
+        | inr zero_there ↦ rw (roots-zero k n zero_there, none) (omega arith)
+        ] in
+      rw (full-below (suc k) n below) (omega (arith, one, some))
+  | inr less ↦
+      let below : n < 2 ^ k = omega (arith, within, less) in
+      rw (full-below k n below) (length-roots k n)
+  ]

@@ -1,7 +1,8 @@
 -- The full roots of n blocks: they tile 0..n, fall in depth, and are the only list that does both.
-use Rattle.std.proofs.Common.{◌≡◌, ℕ, zero, suc, ◌+◌, ◌-◌, ◌*◌, ◌/◌, ◌%◌, ◌^◌, ◌<◌, ◌≤◌, ◌⊎◌, inl, inr, List, [], ◌∷◌, ◌++◌, length, refl, sym, ◌∙◌, ap, subst, arith, add-one, Bool, true, false, nat_eq, if◌then◌else◌}
+use Rattle.std.proofs.Common.{◌≡◌, ℕ, zero, suc, append_assoc, append-nil, length-append, ◌+◌, ◌-◌, ◌*◌, ◌/◌, ◌%◌, ◌^◌, ◌<◌, ◌≤◌, ◌⊎◌, inl, inr, List, [], ◌∷◌, ◌++◌, length, refl, sym, ◌∙◌, ap, subst, arith, add-one, Bool, true, false, nat_eq, if◌then◌else◌}
 use Rattle.std.proofs.lemmas.Bool.{cases_lt, cases_eq, cases_order, eq-eqb, eqb-true}
-use Rattle.std.proofs.Math.Nat.{pow-succ', mul-div_cancel, mod-le, mod_self}
+use Rattle.std.proofs.Math.Nat.{pow-succ', mul-div_cancel, mod-le, mod_self, mod-eq_of_lt}
+use Rattle.std.proofs.lemmas.List.{length-map}
 use Rattle.std.proofs.Math.Pow.{pow_mono, pow-lt}
 use Rattle.std.proofs.lemmas.Nat.{pow_pos, shr-shr, shr_split, mod_below, div_below}
 use Rattle.flat_tree.specs.Subtrees.{Subtree, subtree, number, first_block_of, end_block_of, numbers_of, Tile}
@@ -216,3 +217,60 @@ length-full k n some within = elim (cases_eq n (2 ^ k)) [
       let below : n < 2 ^ k = omega (arith, within, less) in
       rw (full-below k n below) (length-roots k n)
   ]
+
+-- so many blocks are left, the roots so far being these
+abbrev pub RootsLeft : ℕ → ℕ → List ℕ → Type 0
+RootsLeft n left places =
+    (k : ℕ) × ((left ≡ n % 2 ^ k) × (places ++ numbers_of (roots_below k n) ≡ numbers_of (full_roots_of n)))
+
+pub roots_left-all : (n : ℕ) (places : List ℕ) → places ≡ [] → RootsLeft n n places
+unfolding full_roots_of
+roots_left-all n places none =
+    (n, (sym (mod-eq_of_lt (below_pow n)), ap (λ (xs : List ℕ). xs ++ numbers_of (roots_below n n)) none))
+
+step : (n left d : ℕ) (places : List ℕ) → RootsLeft n left places → 2 ^ d ≤ left → left < 2 * 2 ^ d
+    → RootsLeft n (left - 2 ^ d) (places ++ (2 * (n - left) + 2 ^ d - 1) ∷ [])
+step n left d places (k, (is, joined)) low high = elim (cases_lt d k) [
+    inr wide ↦ absurd (omega (arith, is, low, pow_mono wide, mod_below n (2 ^ k) (pow_pos k)))
+  | inl within ↦
+      let up : suc d ≤ k = omega (arith, within) in
+      let small : n % 2 ^ k < 2 ^ suc d = omega (arith, is, high, pow-succ' 2 d) in
+      let lower = low_digits k (suc d) n up small in
+      let equal : left ≡ n % 2 ^ suc d = is ∙ lower.1 in
+      elim (digit d n) [
+          inr none ↦ absurd (omega (arith, equal, low, start-zero d n none, shr_split n d, shr_split n (suc d), mod_below n (2 ^ d) (pow_pos d)))
+        | inl one ↦
+            let here : 2 * (n - left) + 2 ^ d - 1 ≡ number d (n / 2 ^ d - 1) =
+                omega (arith, equal, shr_split n (suc d), root_start d n one, number-first d (n / 2 ^ d - 1)) in
+            let rest : left - 2 ^ d ≡ n % 2 ^ d = omega (arith, equal, start-one d n one, shr_split n d, shr_split n (suc d)) in
+            let split = lower.0 ∙ roots-one d n one in
+            (d, (rest, append_assoc places ((2 * (n - left) + 2 ^ d - 1) ∷ []) (numbers_of (roots_below d n))
+              ∙ ap (λ (x : ℕ). places ++ x ∷ numbers_of (roots_below d n)) here
+              ∙ ap (λ (trees : List Subtree). places ++ numbers_of trees) (sym split)
+              ∙ joined))
+      ]
+  ]
+
+-- the largest root of what is left is the next
+pub roots_left-push : (n left d size : ℕ) (places more : List ℕ) → RootsLeft n left places → 2 ^ d ≤ left → left < 2 * 2 ^ d
+    → size ≡ 2 ^ d → more ≡ places ++ (2 * (n - left) + size - 1) ∷ [] → RootsLeft n (left - size) more
+roots_left-push n left d size places more held low high is pushed =
+    subst (λ (xs : List ℕ). RootsLeft n (left - size) xs) (sym pushed)
+      (subst (λ (s : ℕ). RootsLeft n (left - s) (places ++ (2 * (n - left) + s - 1) ∷ [])) (sym is) (step n left d places held low high))
+
+tile_some : (trees : List Subtree) (from to : ℕ) → Tile trees from to → from < to → 0 < length trees
+tile_some [] from to tile some = absurd (omega (arith, tile, some))
+tile_some (tree ∷ trees) from to tile some = omega arith
+
+pub roots_left-room : (n left : ℕ) (places : List ℕ) → RootsLeft n left places → 0 < left → length places < length (full_roots_of n)
+roots_left-room n left places (k, (is, joined)) some =
+    let more : 0 < length (roots_below k n) = tile_some (roots_below k n) _ n (tile-roots k n) (omega (arith, is, some, shr_split n k)) in
+    let all = sym (length-append places (numbers_of (roots_below k n))) ∙ ap length joined in
+    let whole : length places + length (numbers_of (roots_below k n)) ≡ length (numbers_of (full_roots_of n)) = all in
+    omega (arith, more, simp length-map at whole)
+
+pub roots_left-none : (n left : ℕ) (places : List ℕ) → RootsLeft n left places → left ≡ 0 → places ≡ numbers_of (full_roots_of n)
+unfolding roots_below
+roots_left-none n left places (k, (is, joined)) none =
+    let empty = (low_digits k 0 n (omega arith) (omega (arith, is, none))).0 in
+    sym (append-nil places) ∙ ap (λ (trees : List Subtree). places ++ numbers_of trees) (sym empty) ∙ joined

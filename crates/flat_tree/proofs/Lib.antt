@@ -1,3 +1,4 @@
 pub mod StandardFacts
 pub mod NumberLemmas
 pub mod RootLemmas
+pub mod OverLemmas

@@ -1,5 +1,5 @@
 -- The numbers of subtrees by depth and offset.
-use Rattle.std.proofs.Common.{◌≡◌, ℕ, zero, suc, ◌+◌, ◌-◌, ◌*◌, ◌/◌, ◌%◌, ◌^◌, ◌<◌, ◌≤◌, ◌⊎◌, inl, inr, refl, sym, ◌∙◌, ap, subst, arith, add-one, lit<}
+use Rattle.std.proofs.Common.{◌≡◌, ℕ, zero, suc, ◌+◌, ◌-◌, ◌*◌, ◌/◌, ◌%◌, ◌^◌, ◌<◌, ◌≤◌, inl, inr, refl, sym, ◌∙◌, ap, subst, arith, add-one, lit<}
 use Rattle.std.specs.Int.{bit_at, trailing_ones, w64}
 use Rattle.std.proofs.lemmas.Bool.{cases_lt, cases_eq, cases_order}
 use Rattle.std.proofs.Math.Nat.{pow-succ'}
@@ -53,10 +53,10 @@ bit-there d o =
 -- a place with a zero and ones below it is one place
 lowest_is_one : (f : ℕ → ℕ) (s t : ℕ) → f s ≡ 0 → ((i : ℕ) → i < s → f i ≡ 1) → f t ≡ 0 → ((i : ℕ) → i < t → f i ≡ 1) → s ≡ t
 lowest_is_one f s t at_s below_s at_t below_t = elim (cases_order s t) [
-    inl same ↦ same
+  | inl same ↦ same
   | inr (inl before) ↦ omega (arith, below_t s before)
   | inr (inr after) ↦ omega (arith, below_s t after)
-  ]
+]
 
 -- the lowest zero digit of a node is its depth
 lowest : (d o t : ℕ) → bit_at (number d o) t ≡ 0 → ((i : ℕ) → i < t → bit_at (number d o) i ≡ 1) → t ≡ d
@@ -90,13 +90,13 @@ some_in : (k n : ℕ) → n < k → (d : ℕ) × ((o : ℕ) × (n ≡ number d o
 unfolding number
 some_in zero n below = absurd (omega arith)
 some_in (suc k) n below = elim (cases_eq (n % 2) 0) [
-    inl even ↦ (0, (n / 2, omega arith))
+  | inl even ↦ (0, (n / 2, omega arith))
   | inr odd ↦
       let half : n / 2 < k = omega arith in
       let lower = some_in k (n / 2) half in
       let is : n / 2 ≡ number lower.0 lower.1.0 = lower.1.1 in
       (lower.0 + 1, (lower.1.0, omega (arith, number-up lower.0 lower.1.0, is)))
-  ]
+]
 
 pub some_number : (n : ℕ) → (d : ℕ) × ((o : ℕ) × (n ≡ number d o))
 some_number n = some_in (n + 1) n (omega arith)
@@ -104,9 +104,9 @@ some_number n = some_in (n + 1) n (omega arith)
 -- a node's depth is bounded by its digits
 pub depth_below : (d o k : ℕ) → number d o < 2 ^ k → d ≤ k
 depth_below d o k below = elim (cases_lt k d) [
-    inl deeper ↦ omega (arith, number-first d o, pow-lt deeper)
+  | inl deeper ↦ omega (arith, number-first d o, pow-lt deeper)
   | inr fits ↦ fits
-  ]
+]
 
 -- the row above, from a left and from a right half
 pub parent_of_left : (d o : ℕ) → o % 2 ≡ 0 → number d o + 2 ^ d ≡ number (d + 1) (o / 2)

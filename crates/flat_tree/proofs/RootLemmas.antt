@@ -1,9 +1,9 @@
 -- The full roots of n blocks: they tile 0..n, fall in depth, and are the only list that does both.
-use Rattle.std.proofs.Common.{◌≡◌, ℕ, zero, suc, append_assoc, append-nil, length-append, ◌+◌, ◌-◌, ◌*◌, ◌/◌, ◌%◌, ◌^◌, ◌<◌, ◌≤◌, ◌⊎◌, inl, inr, List, [], ◌∷◌, ◌++◌, length, refl, sym, ◌∙◌, ap, subst, arith, add-one, Bool, true, false, nat_eq, if◌then◌else◌}
-use Rattle.std.proofs.lemmas.Bool.{cases_lt, cases_eq, cases_order, eq-eqb, eqb-true}
+use Rattle.std.proofs.Common.{◌≡◌, ℕ, zero, suc, append_assoc, append-nil, length-append, ◌+◌, ◌-◌, ◌*◌, ◌/◌, ◌%◌, ◌^◌, ◌<◌, ◌≤◌, ◌⊎◌, inl, inr, List, [], ◌∷◌, ◌++◌, length, refl, sym, ◌∙◌, ap, subst, arith, add-one}
+use Rattle.std.proofs.lemmas.Bool.{cases_lt, cases_eq, eq-eqb}
 use Rattle.std.proofs.Math.Nat.{pow-succ', mul-div_cancel, mod-le, mod_self, mod-eq_of_lt}
 use Rattle.std.proofs.lemmas.List.{length-map}
-use Rattle.std.proofs.Math.Pow.{pow_mono, pow-lt}
+use Rattle.std.proofs.Math.Pow.{pow_mono}
 use Rattle.std.proofs.lemmas.Nat.{pow_pos, shr-shr, shr_split, mod_below, div_below}
 use Rattle.flat_tree.specs.Subtrees.{Subtree, subtree, number, first_block_of, end_block_of, numbers_of, Tile}
 use Rattle.flat_tree.specs.Roots.{roots_below, full_roots_of, Fall, FallBelow}
@@ -14,7 +14,7 @@ abbrev pub start_of : ℕ → ℕ → ℕ
 start_of depth blocks = blocks / 2 ^ depth * 2 ^ depth
 
 -- a digit is one or zero
-digit : (d n : ℕ) → (n / 2 ^ d % 2 ≡ 1) ⊎ (n / 2 ^ d % 2 ≡ 0)
+pub digit : (d n : ℕ) → (n / 2 ^ d % 2 ≡ 1) ⊎ (n / 2 ^ d % 2 ≡ 0)
 digit d n = elim (cases_eq (n / 2 ^ d % 2) 1) [ inl one ↦ inl one | inr other ↦ inr (omega arith) ]
 
 start-one : (d n : ℕ) → n / 2 ^ d % 2 ≡ 1 → start_of d n ≡ start_of (suc d) n + 2 ^ d
@@ -48,16 +48,16 @@ root_start d n one =
     let times : n / 2 ^ d * 2 ^ d ≡ (n / 2 ^ d - 1 + 1) * 2 ^ d = ap (λ (k : ℕ). k * 2 ^ d) one_less in
     omega (arith, times, start-one d n one)
 
-root_end : (d n : ℕ) → n / 2 ^ d % 2 ≡ 1 → end_block_of d (n / 2 ^ d - 1) ≡ start_of d n
+pub root_end : (d n : ℕ) → n / 2 ^ d % 2 ≡ 1 → end_block_of d (n / 2 ^ d - 1) ≡ start_of d n
 root_end d n one = omega (arith, end-first d (n / 2 ^ d - 1), root_start d n one, start-one d n one)
 
 pub tile-roots : (d n : ℕ) → Tile (roots_below d n) (start_of d n) n
 unfolding roots_below
 tile-roots zero n = omega arith
 tile-roots (suc d) n = elim (digit d n) [
-    inl one ↦ rw (roots-one d n one) (root_start d n one, rw (root_end d n one) (tile-roots d n))
+  | inl one ↦ rw (roots-one d n one) (root_start d n one, rw (root_end d n one) (tile-roots d n))
   | inr none ↦ rw (roots-zero d n none, ← start-zero d n none) (tile-roots d n)
-  ]
+]
 
 -- a higher bound
 fall_more : (trees : List Subtree) (low high : ℕ) → low ≤ high → FallBelow low trees → FallBelow high trees
@@ -68,9 +68,9 @@ pub fall-roots : (d n : ℕ) → FallBelow d (roots_below d n)
 unfolding roots_below
 fall-roots zero n = tt
 fall-roots (suc d) n = elim (digit d n) [
-    inl one ↦ rw (roots-one d n one) (omega arith, fall-roots d n)
+  | inl one ↦ rw (roots-one d n one) (omega arith, fall-roots d n)
   | inr none ↦ rw (roots-zero d n none) (fall_more (roots_below d n) d (suc d) (omega arith) (fall-roots d n))
-  ]
+]
 
 -- a tiling goes up
 tile-le : (trees : List Subtree) (from to : ℕ) → Tile trees from to → from ≤ to
@@ -96,33 +96,33 @@ unfolding roots_below
 only-roots zero n [] tile falls = refl
 only-roots zero n (tree ∷ trees) tile falls = absurd (omega (arith, falls.0))
 only-roots (suc d) n [] tile falls = elim (digit d n) [
-    inl one ↦ absurd (omega (arith, tile, start-one d n one, shr_split n d, pow_pos d))
+  | inl one ↦ absurd (omega (arith, tile, start-one d n one, shr_split n d, pow_pos d))
   | inr none ↦ only-roots d n [] (start-zero d n none ∙ tile) tt ∙ sym (roots-zero d n none)
-  ]
+]
 only-roots (suc d) n (tree ∷ trees) tile falls = elim (digit d n) [
-    inl one ↦ elim (cases_eq tree.depth d) [
-        inl same ↦
-          let begins = ap (λ (k : ℕ). first_block_of k tree.offset) (sym same) ∙ tile.0 in
-          let place : tree.offset ≡ n / 2 ^ d - 1 = same_offset d tree.offset (n / 2 ^ d - 1) (begins ∙ sym (root_start d n one)) in
-          let is : tree ≡ subtree d (n / 2 ^ d - 1) = ap (λ (k : ℕ). subtree k tree.offset) same ∙ ap (λ (o : ℕ). subtree d o) place in
-          let ends = ap (λ (t : Subtree). end_block_of t.depth t.offset) is ∙ root_end d n one in
-          let rest = only-roots d n trees (subst (λ (b : ℕ). Tile trees b n) ends tile.1) (subst (λ (b : ℕ). FallBelow b trees) same falls.1) in
-          ap (λ (t : Subtree). t ∷ trees) is ∙ ap (λ (ts : List Subtree). subtree d (n / 2 ^ d - 1) ∷ ts) rest ∙ sym (roots-one d n one)
-      | inr lower ↦
-          let deep : tree.depth < d = omega (arith, falls.0, lower) in
-          let short = tile-fall (tree ∷ trees) d _ n (deep, falls.1) tile in
-          absurd (omega (arith, short, start-one d n one, shr_split n d))
-      ]
-  | inr none ↦ elim (cases_eq tree.depth d) [
-        inl same ↦ 
-          let size : 2 ^ tree.depth ≡ 2 ^ d = ap (λ (k : ℕ). 2 ^ k) same in
-          absurd (omega (arith, size, tile.0, end-first tree.depth tree.offset, tile-le trees _ n tile.1, start-zero d n none, shr_split n d, mod_below n (2 ^ d) (pow_pos d)))
-      | inr lower ↦
-          let deep : tree.depth < d = omega (arith, falls.0, lower) in
-          let begins = tile.0 ∙ sym (start-zero d n none) in
-          only-roots d n (tree ∷ trees) (begins, tile.1) (deep, falls.1) ∙ sym (roots-zero d n none)
-      ]
+  | inl one ↦ elim (cases_eq tree.depth d) [
+    | inl same ↦
+        let begins = ap (λ (k : ℕ). first_block_of k tree.offset) (sym same) ∙ tile.0 in
+        let place : tree.offset ≡ n / 2 ^ d - 1 = same_offset d tree.offset (n / 2 ^ d - 1) (begins ∙ sym (root_start d n one)) in
+        let is : tree ≡ subtree d (n / 2 ^ d - 1) = ap (λ (k : ℕ). subtree k tree.offset) same ∙ ap (λ (o : ℕ). subtree d o) place in
+        let ends = ap (λ (t : Subtree). end_block_of t.depth t.offset) is ∙ root_end d n one in
+        let rest = only-roots d n trees (subst (λ (b : ℕ). Tile trees b n) ends tile.1) (subst (λ (b : ℕ). FallBelow b trees) same falls.1) in
+        ap (λ (t : Subtree). t ∷ trees) is ∙ ap (λ (ts : List Subtree). subtree d (n / 2 ^ d - 1) ∷ ts) rest ∙ sym (roots-one d n one)
+    | inr lower ↦
+        let deep : tree.depth < d = omega (arith, falls.0, lower) in
+        let short = tile-fall (tree ∷ trees) d _ n (deep, falls.1) tile in
+        absurd (omega (arith, short, start-one d n one, shr_split n d))
   ]
+  | inr none ↦ elim (cases_eq tree.depth d) [
+    | inl same ↦
+        let size : 2 ^ tree.depth ≡ 2 ^ d = ap (λ (k : ℕ). 2 ^ k) same in
+        absurd (omega (arith, size, tile.0, end-first tree.depth tree.offset, tile-le trees _ n tile.1, start-zero d n none, shr_split n d, mod_below n (2 ^ d) (pow_pos d)))
+    | inr lower ↦
+        let deep : tree.depth < d = omega (arith, falls.0, lower) in
+        let begins = tile.0 ∙ sym (start-zero d n none) in
+        only-roots d n (tree ∷ trees) (begins, tile.1) (deep, falls.1) ∙ sym (roots-zero d n none)
+  ]
+]
 
 -- digits that are zero have no roots
 pub low_digits : (k d n : ℕ) → d ≤ k → n % 2 ^ k < 2 ^ d → (roots_below k n ≡ roots_below d n) × (n % 2 ^ k ≡ n % 2 ^ d)
@@ -130,21 +130,21 @@ low_digits zero d n within small =
     let none : 0 ≡ d = omega arith in
     (ap (λ (b : ℕ). roots_below b n) none, ap (λ (b : ℕ). n % 2 ^ b) none)
 low_digits (suc k) d n within small = elim (cases_eq (suc k) d) [
-    inl same ↦ (ap (λ (b : ℕ). roots_below b n) same, ap (λ (b : ℕ). n % 2 ^ b) same)
+  | inl same ↦ (ap (λ (b : ℕ). roots_below b n) same, ap (λ (b : ℕ). n % 2 ^ b) same)
   | inr more ↦ elim (digit k n) [
-        inl one ↦
-          let lower : d ≤ k = omega (arith, within, more) in
-          absurd (omega (arith, small, start-one k n one, shr_split n k, shr_split n (suc k), pow_mono lower))
-      | inr none ↦
-          let lower : d ≤ k = omega (arith, within, more) in
-          let rest : n % 2 ^ suc k ≡ n % 2 ^ k = omega (arith, start-zero k n none, shr_split n k, shr_split n (suc k)) in
-          let least : n % 2 ^ k < 2 ^ d = omega (arith, rest, small) in
-          let further = low_digits k d n lower least in
-          (roots-zero k n none ∙ further.0, rest ∙ further.1)
-      ]
+    | inl one ↦
+        let lower : d ≤ k = omega (arith, within, more) in
+        absurd (omega (arith, small, start-one k n one, shr_split n k, shr_split n (suc k), pow_mono lower))
+    | inr none ↦
+        let lower : d ≤ k = omega (arith, within, more) in
+        let rest : n % 2 ^ suc k ≡ n % 2 ^ k = omega (arith, start-zero k n none, shr_split n k, shr_split n (suc k)) in
+        let least : n % 2 ^ k < 2 ^ d = omega (arith, rest, small) in
+        let further = low_digits k d n lower least in
+        (roots-zero k n none ∙ further.0, rest ∙ further.1)
   ]
+]
 
-below_pow : (n : ℕ) → n < 2 ^ n
+pub below_pow : (n : ℕ) → n < 2 ^ n
 below_pow zero = omega arith
 below_pow (suc n) = rw (pow-succ' 2 n) (omega (arith, below_pow n))
 
@@ -152,13 +152,13 @@ below_pow (suc n) = rw (pow-succ' 2 n) (omega (arith, below_pow n))
 pub full-below : (k n : ℕ) → n < 2 ^ k → full_roots_of n ≡ roots_below k n
 unfolding full_roots_of
 full-below k n small = elim (cases_lt k n) [
-    inl fewer ↦
+  | inl fewer ↦
       let least : n % 2 ^ n < 2 ^ k = omega (arith, small, mod-le n (2 ^ n)) in
       (low_digits n k n (omega (arith, fewer)) least).0
   | inr enough ↦
       let least : n % 2 ^ k < 2 ^ n = omega (arith, below_pow n, mod-le n (2 ^ k)) in
       sym (low_digits k n n enough least).0
-  ]
+]
 
 pub tile-full : (n : ℕ) → Tile (full_roots_of n) 0 n
 unfolding full_roots_of
@@ -180,9 +180,9 @@ fall-full n = fall_any n (roots_below n n) (fall-roots n n)
 fall_within : (n : ℕ) (trees : List Subtree) → Tile trees 0 n → Fall trees → FallBelow n trees
 fall_within n [] tile falls = tt
 fall_within n (tree ∷ trees) tile falls = elim (cases_lt tree.depth n) [
-    inl deep ↦ (deep, falls)
+  | inl deep ↦ (deep, falls)
   | inr high ↦ absurd (omega (arith, pow_mono high, below_pow n, end-first tree.depth tree.offset, tile-le trees _ n tile.1))
-  ]
+]
 
 pub only-full : (n : ℕ) (trees : List Subtree) → Tile trees 0 n → Fall trees → trees ≡ full_roots_of n
 unfolding full_roots_of
@@ -196,27 +196,27 @@ length-roots : (k n : ℕ) → length (roots_below k n) ≤ k
 unfolding roots_below
 length-roots zero n = omega arith
 length-roots (suc k) n = elim (digit k n) [
-    inl one ↦ rw (roots-one k n one) (omega (arith, length-roots k n))
+  | inl one ↦ rw (roots-one k n one) (omega (arith, length-roots k n))
   | inr none ↦ rw (roots-zero k n none) (omega (arith, length-roots k n))
-  ]
+]
 
 -- no more roots than digits
 pub length-full : (k n : ℕ) → 0 < k → n ≤ 2 ^ k → length (full_roots_of n) ≤ k
 unfolding roots_below
 length-full k n some within = elim (cases_eq n (2 ^ k)) [
-    inl same ↦
+  | inl same ↦
       let below : n < 2 ^ suc k = omega (arith, same, pow-succ' 2 k, pow_pos k) in
       let rest : n % 2 ^ k ≡ 0 = ap (λ (m : ℕ). m % 2 ^ k) same ∙ mod_self (2 ^ k) in
       let none = (low_digits k 0 n (omega arith) (omega (arith, rest))).0 in
       let one : length (roots_below (suc k) n) ≤ 1 = elim (digit k n) [
-          inl one ↦ rw (roots-one k n one, none) (omega arith)
+        | inl one ↦ rw (roots-one k n one, none) (omega arith)
         | inr zero_there ↦ rw (roots-zero k n zero_there, none) (omega arith)
-        ] in
+      ] in
       rw (full-below (suc k) n below) (omega (arith, one, some))
   | inr less ↦
       let below : n < 2 ^ k = omega (arith, within, less) in
       rw (full-below k n below) (length-roots k n)
-  ]
+]
 
 -- so many blocks are left, the roots so far being these
 abbrev pub RootsLeft : ℕ → ℕ → List ℕ → Type 0
@@ -231,32 +231,37 @@ roots_left-all n places none =
 step : (n left d : ℕ) (places : List ℕ) → RootsLeft n left places → 2 ^ d ≤ left → left < 2 * 2 ^ d
     → RootsLeft n (left - 2 ^ d) (places ++ (2 * (n - left) + 2 ^ d - 1) ∷ [])
 step n left d places (k, (is, joined)) low high = elim (cases_lt d k) [
-    inr wide ↦ absurd (omega (arith, is, low, pow_mono wide, mod_below n (2 ^ k) (pow_pos k)))
+  | inr wide ↦ absurd (omega (arith, is, low, pow_mono wide, mod_below n (2 ^ k) (pow_pos k)))
   | inl within ↦
       let up : suc d ≤ k = omega (arith, within) in
       let small : n % 2 ^ k < 2 ^ suc d = omega (arith, is, high, pow-succ' 2 d) in
       let lower = low_digits k (suc d) n up small in
       let equal : left ≡ n % 2 ^ suc d = is ∙ lower.1 in
       elim (digit d n) [
-          inr none ↦ absurd (omega (arith, equal, low, start-zero d n none, shr_split n d, shr_split n (suc d), mod_below n (2 ^ d) (pow_pos d)))
+        | inr none ↦ absurd (omega (arith, equal, low, start-zero d n none, shr_split n d, shr_split n (suc d), mod_below n (2 ^ d) (pow_pos d)))
         | inl one ↦
             let here : 2 * (n - left) + 2 ^ d - 1 ≡ number d (n / 2 ^ d - 1) =
-                omega (arith, equal, shr_split n (suc d), root_start d n one, number-first d (n / 2 ^ d - 1)) in
+            omega (arith, equal, shr_split n (suc d), root_start d n one, number-first d (n / 2 ^ d - 1)) in
             let rest : left - 2 ^ d ≡ n % 2 ^ d = omega (arith, equal, start-one d n one, shr_split n d, shr_split n (suc d)) in
-            let split = lower.0 ∙ roots-one d n one in
-            (d, (rest, append_assoc places ((2 * (n - left) + 2 ^ d - 1) ∷ []) (numbers_of (roots_below d n))
-              ∙ ap (λ (x : ℕ). places ++ x ∷ numbers_of (roots_below d n)) here
-              ∙ ap (λ (trees : List Subtree). places ++ numbers_of trees) (sym split)
-              ∙ joined))
+            let split = lower.0 ∙ roots-one d n one in (
+              d,
+              (
+                rest,
+                append_assoc places ((2 * (n - left) + 2 ^ d - 1) ∷ []) (numbers_of (roots_below d n))
+                    ∙ ap (λ (x : ℕ). places ++ x ∷ numbers_of (roots_below d n)) here
+                    ∙ ap (λ (trees : List Subtree). places ++ numbers_of trees) (sym split)
+                    ∙ joined,
+              ),
+            )
       ]
-  ]
+]
 
 -- the largest root of what is left is the next
 pub roots_left-push : (n left d size : ℕ) (places more : List ℕ) → RootsLeft n left places → 2 ^ d ≤ left → left < 2 * 2 ^ d
     → size ≡ 2 ^ d → more ≡ places ++ (2 * (n - left) + size - 1) ∷ [] → RootsLeft n (left - size) more
 roots_left-push n left d size places more held low high is pushed =
     subst (λ (xs : List ℕ). RootsLeft n (left - size) xs) (sym pushed)
-      (subst (λ (s : ℕ). RootsLeft n (left - s) (places ++ (2 * (n - left) + s - 1) ∷ [])) (sym is) (step n left d places held low high))
+    (subst (λ (s : ℕ). RootsLeft n (left - s) (places ++ (2 * (n - left) + s - 1) ∷ [])) (sym is) (step n left d places held low high))
 
 tile_some : (trees : List Subtree) (from to : ℕ) → Tile trees from to → from < to → 0 < length trees
 tile_some [] from to tile some = absurd (omega (arith, tile, some))

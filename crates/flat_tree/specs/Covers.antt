@@ -1,5 +1,5 @@
 -- The fewest subtrees that have the blocks of a range, left to right.
-use Rattle.std.specs.Prelude.{ℕ, zero, suc, Bool, List, [], ◌∷◌, ◌+◌, ◌-◌, ◌*◌, ◌/◌, ◌%◌, ◌^◌, ◌&&◌, if◌then◌else◌, nat_eq, nat_le, nat_lt}
+use Rattle.std.specs.Prelude.{ℕ, zero, suc, Bool, List, [], ◌∷◌, ◌+◌, ◌-◌, ◌/◌, ◌%◌, ◌^◌, ◌&&◌, if◌then◌else◌, nat_eq, nat_le, nat_lt}
 use Rattle.flat_tree.specs.Subtrees.{Subtree, subtree}
 
 -- a subtree of this depth begins at the first block and ends within the range

@@ -38,13 +38,7 @@ pub fn root_of_block(blocks: u64, block: u64) -> (usize, u32)
     ensures inside { result.0 < length (full_roots_of blocks) }
     ensures few { blocks ≤ MAX_BLOCKS → result.1 ≤ MAX_SIBLINGS }
 {
-    let mut place = 0;
-    let mut depth = blocks.ilog2();
-    let mut end = 1u64 << depth;
-    while end <= block {
-        depth = (blocks - end).ilog2();
-        end += 1u64 << depth;
-        place += 1;
-    }
-    (place, depth)
+    // the highest digit in which the two differ
+    let depth = (blocks ^ block).ilog2();
+    ((blocks >> depth >> 1).count_ones() as usize, depth)
 }

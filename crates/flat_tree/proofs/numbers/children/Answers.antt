@@ -1,4 +1,4 @@
-use Rattle.std.proofs.Common.{ℕ, ◌+◌, ◌-◌, ◌*◌, ◌/◌, ◌%◌, ◌<◌, ◌≤◌, ◌^◌, ◌≡◌, ◌∙◌, ap, sym, arith}
+use Rattle.std.proofs.Common.{◌+◌, ◌-◌, ◌*◌, ◌%◌, ◌^◌, ◌≡◌, arith}
 use Rattle.flat_tree.specs.Subtrees.{number}
 use Rattle.flat_tree.proofs.NumberLemmas.{shl_one, left_half, right_half, reach_below, depth_half}
 use Rattle.flat_tree.proofs.numbers.children.Goals as goal

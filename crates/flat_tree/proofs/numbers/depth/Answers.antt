@@ -1,4 +1,4 @@
-use Rattle.std.proofs.Common.{ℕ, ◌+◌, ◌-◌, ◌*◌, ◌/◌, ◌%◌, ◌<◌, ◌≤◌, ◌^◌, ◌≡◌, ◌∙◌, ap, sym, arith}
+use Rattle.std.proofs.Common.{◌≡◌, ◌∙◌, arith}
 use Rattle.flat_tree.specs.Subtrees.{number}
 use Rattle.flat_tree.proofs.NumberLemmas.{trailing_ones-number, depth_some, depth_below}
 use Rattle.flat_tree.proofs.numbers.depth.Goals as goal

@@ -1,5 +1,4 @@
-use Rattle.std.proofs.Common.{ℕ, ◌+◌, ◌-◌, ◌*◌, ◌/◌, ◌%◌, ◌<◌, ◌≤◌, ◌^◌, ◌≡◌, ◌∙◌, ap, sym, arith}
-use Rattle.flat_tree.specs.Subtrees.{number}
+use Rattle.std.proofs.Common.{arith}
 use Rattle.flat_tree.proofs.NumberLemmas.{index_fits, number_shl}
 use Rattle.flat_tree.proofs.numbers.index.Goals as goal
 

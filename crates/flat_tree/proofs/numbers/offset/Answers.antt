@@ -1,4 +1,4 @@
-use Rattle.std.proofs.Common.{ℕ, ◌+◌, ◌-◌, ◌*◌, ◌/◌, ◌%◌, ◌<◌, ◌≤◌, ◌^◌, ◌≡◌, ◌∙◌, ap, sym, arith, subst}
+use Rattle.std.proofs.Common.{ℕ, ◌/◌, ◌^◌, ◌≡◌, ◌∙◌, ap, sym}
 use Rattle.flat_tree.specs.Subtrees.{number}
 use Rattle.flat_tree.proofs.NumberLemmas.{shifted}
 use Rattle.flat_tree.proofs.numbers.offset.Goals as goal

@@ -1,5 +1,4 @@
-use Rattle.std.proofs.Common.{ℕ, ◌+◌, ◌-◌, ◌*◌, ◌/◌, ◌%◌, ◌<◌, ◌≤◌, ◌^◌, ◌≡◌, ◌∙◌, ap, sym, arith}
-use Rattle.flat_tree.specs.Subtrees.{number}
+use Rattle.std.proofs.Common.{arith}
 use Rattle.flat_tree.proofs.NumberLemmas.{shl_one, parent_of_left, parent_of_right, reach_below}
 use Rattle.flat_tree.proofs.numbers.parent.Goals as goal
 

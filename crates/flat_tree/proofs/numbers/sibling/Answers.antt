@@ -1,5 +1,4 @@
-use Rattle.std.proofs.Common.{ℕ, ◌+◌, ◌-◌, ◌*◌, ◌/◌, ◌%◌, ◌<◌, ◌≤◌, ◌^◌, ◌≡◌, ◌∙◌, ap, sym, arith}
-use Rattle.flat_tree.specs.Subtrees.{number}
+use Rattle.std.proofs.Common.{arith}
 use Rattle.flat_tree.proofs.NumberLemmas.{shl_two, sibling_of_left, sibling_of_right, reach_below}
 use Rattle.flat_tree.proofs.numbers.sibling.Goals as goal
 

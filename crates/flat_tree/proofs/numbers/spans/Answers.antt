@@ -1,6 +1,5 @@
-use Rattle.std.proofs.Common.{ℕ, ◌+◌, ◌-◌, ◌*◌, ◌/◌, ◌%◌, ◌<◌, ◌≤◌, ◌^◌, ◌≡◌, ◌∙◌, ap, sym, arith}
+use Rattle.std.proofs.Common.{arith}
 use Rattle.std.proofs.lemmas.Nat.{pow_pos}
-use Rattle.flat_tree.specs.Subtrees.{number, first_block_of, end_block_of}
 use Rattle.flat_tree.proofs.NumberLemmas.{shl_one, number-first, end-first, reach_below}
 use Rattle.flat_tree.proofs.numbers.spans.Goals as goal
 

@@ -17,14 +17,14 @@ start_of depth blocks = blocks / 2 ^ depth * 2 ^ depth
 pub digit : (d n : ℕ) → (n / 2 ^ d % 2 ≡ 1) ⊎ (n / 2 ^ d % 2 ≡ 0)
 digit d n = elim (cases_eq (n / 2 ^ d % 2) 1) [ inl one ↦ inl one | inr other ↦ inr (omega arith) ]
 
-start-one : (d n : ℕ) → n / 2 ^ d % 2 ≡ 1 → start_of d n ≡ start_of (suc d) n + 2 ^ d
+pub start-one : (d n : ℕ) → n / 2 ^ d % 2 ≡ 1 → start_of d n ≡ start_of (suc d) n + 2 ^ d
 start-one d n one =
     let up : n / 2 ^ suc d ≡ n / 2 ^ d / 2 = ap (λ (k : ℕ). n / 2 ^ k) (sym (add-one d)) ∙ sym (shr-shr n d 1) in
     let count : n / 2 ^ d ≡ 2 * (n / 2 ^ d / 2) + 1 = omega arith in
     let times : n / 2 ^ d * 2 ^ d ≡ (2 * (n / 2 ^ d / 2) + 1) * 2 ^ d = ap (λ (k : ℕ). k * 2 ^ d) count in
     rw (up, pow-succ' 2 d) (omega (arith, times))
 
-start-zero : (d n : ℕ) → n / 2 ^ d % 2 ≡ 0 → start_of d n ≡ start_of (suc d) n
+pub start-zero : (d n : ℕ) → n / 2 ^ d % 2 ≡ 0 → start_of d n ≡ start_of (suc d) n
 start-zero d n none =
     let up : n / 2 ^ suc d ≡ n / 2 ^ d / 2 = ap (λ (k : ℕ). n / 2 ^ k) (sym (add-one d)) ∙ sym (shr-shr n d 1) in
     let count : n / 2 ^ d ≡ 2 * (n / 2 ^ d / 2) = omega arith in
@@ -73,7 +73,7 @@ fall-roots (suc d) n = elim (digit d n) [
 ]
 
 -- a tiling goes up
-tile-le : (trees : List Subtree) (from to : ℕ) → Tile trees from to → from ≤ to
+pub tile-le : (trees : List Subtree) (from to : ℕ) → Tile trees from to → from ≤ to
 tile-le [] from to tile = omega (arith, tile)
 tile-le (tree ∷ trees) from to tile = omega (arith, tile.0, end-first tree.depth tree.offset, tile-le trees _ to tile.1)
 
@@ -85,7 +85,7 @@ tile-fall (tree ∷ trees) bound from to falls tile =
     omega (arith, tile.0, end-first tree.depth tree.offset, tile-fall trees tree.depth _ to falls.1 tile.1, pow_mono up, pow-succ' 2 tree.depth)
 
 -- subtrees of one depth that begin at one block are one
-same_offset : (d o p : ℕ) → first_block_of d o ≡ first_block_of d p → o ≡ p
+pub same_offset : (d o p : ℕ) → first_block_of d o ≡ first_block_of d p → o ≡ p
 unfolding first_block_of
 same_offset d o p same =
     sym (mul-div_cancel o (pow_pos d)) ∙ ap (λ (n : ℕ). n / 2 ^ d) same ∙ mul-div_cancel p (pow_pos d)
@@ -168,7 +168,7 @@ tile-full n =
     let begins : start_of n n ≡ 0 = ap (λ (k : ℕ). k * 2 ^ n) none ∙ omega arith in
     subst (λ (from : ℕ). Tile (roots_below n n) from n) begins (tile-roots n n)
 
-fall_any : (bound : ℕ) (trees : List Subtree) → FallBelow bound trees → Fall trees
+pub fall_any : (bound : ℕ) (trees : List Subtree) → FallBelow bound trees → Fall trees
 fall_any bound [] falls = tt
 fall_any bound (tree ∷ trees) falls = falls.1
 

@@ -4,11 +4,13 @@
 
 #![tactic(auto)]
 
+mod covers;
 mod limits;
 mod numbers;
 mod room_list;
 mod roots;
 
+pub use covers::cover;
 pub use limits::{
     MAX_BATCH_BLOCKS, MAX_BATCH_BYTES, MAX_BLOCK_BYTES, MAX_BLOCKS, MAX_CORE_BYTES, MAX_COUNT,
     MAX_DEPTH, MAX_FORK, MAX_FRESH_NODES, MAX_NODE, MAX_ROOTS, MAX_SIBLINGS, MAX_UPGRADE_NODES,

@@ -4,7 +4,7 @@ use Rattle.std.specs.Int.{bit_at, trailing_ones, w64}
 use Rattle.std.proofs.lemmas.Bool.{cases_lt, cases_eq, cases_order}
 use Rattle.std.proofs.Math.Nat.{pow-succ'}
 use Rattle.std.proofs.Math.Pow.{pow_mono, pow-lt}
-use Rattle.std.proofs.lemmas.Nat.{pow_pos, shr_high, one_shl, shl_whole, pow-add, mul-le}
+use Rattle.std.proofs.lemmas.Nat.{pow_pos, shr_high, shr_split, mod_below, one_shl, shl_whole, pow-add, mul-le}
 use Rattle.flat_tree.specs.declared.limits.TheConstants.{MAX_DEPTH, MAX_NODE}
 use Rattle.std.proofs.lemmas.Nat.Bits.{bit_at_cat_low, bit_at_ones, bit_at_ones_above, bit_at-trailing_ones}
 use Rattle.flat_tree.specs.Subtrees.{number, first_block_of, end_block_of}
@@ -23,18 +23,40 @@ pub end-first : (d o : ℕ) → end_block_of d o ≡ first_block_of d o + 2 ^ d
 unfolding first_block_of end_block_of
 end-first d o = omega arith
 
--- a row above
-pub first-up : (d o : ℕ) → first_block_of (d + 1) o ≡ first_block_of d (2 * o)
+-- the halves of a subtree have its blocks
+pub first-suc : (d o : ℕ) → first_block_of (suc d) o ≡ first_block_of d (2 * o)
 unfolding first_block_of
-first-up d o = rw pow-up (omega arith)
+first-suc d o = rw (pow-succ' 2 d) (omega arith)
 
-pub first-double : (d o : ℕ) → first_block_of d (2 * o) ≡ 2 * first_block_of d o
-unfolding first_block_of
-first-double d o = omega arith
+pub end-suc : (d o : ℕ) → end_block_of (suc d) o ≡ end_block_of d (2 * o + 1)
+unfolding end_block_of
+end-suc d o = rw (pow-succ' 2 d) (omega arith)
 
-pub first-next : (d o : ℕ) → first_block_of d (o + 1) ≡ first_block_of d o + 2 ^ d
+pub halves_meet : (d o : ℕ) → end_block_of d (2 * o) ≡ first_block_of d (2 * o + 1)
+unfolding first_block_of end_block_of
+halves_meet d o = refl
+
+-- a leaf has its block alone
+pub leaf : (o : ℕ) → (number 0 o ≡ 2 * o) × (first_block_of 0 o ≡ o) × (end_block_of 0 o ≡ o + 1)
+unfolding number first_block_of end_block_of
+leaf o = (omega arith, omega arith, omega arith)
+
+-- a block is in the subtree of its own digits alone
+pub inside_of : (d i : ℕ) → (first_block_of d (i / 2 ^ d) ≤ i) × (i < end_block_of d (i / 2 ^ d))
 unfolding first_block_of
-first-next d o = omega arith
+inside_of d i =
+    (omega (arith, shr_split i d), omega (arith, end-first d (i / 2 ^ d), shr_split i d, mod_below i (2 ^ d) (pow_pos d)))
+
+pub inside_only : (d o i : ℕ) → first_block_of d o ≤ i → i < end_block_of d o → i / 2 ^ d ≡ o
+unfolding first_block_of
+inside_only d o i low high =
+    let rest : i - o * 2 ^ d < 2 ^ d = omega (arith, end-first d o, low, high) in
+    let is : i ≡ o * 2 ^ d + (i - o * 2 ^ d) = omega (arith, low) in
+    ap (λ (n : ℕ). n / 2 ^ d) is ∙ shr_high o d (i - o * 2 ^ d) rest
+
+-- a node is less than twice the end of its blocks
+pub number_below : (d o : ℕ) → number d o < 2 * end_block_of d o
+number_below d o = omega (arith, number-first d o, end-first d o)
 
 -- the digits of a node: ones below its depth, and a zero there
 bit-below : (d o i : ℕ) → i < d → bit_at (number d o) i ≡ 1
@@ -80,6 +102,9 @@ shifted d o =
     let below : 2 ^ d - 1 < 2 ^ d = omega (arith, pow_pos d) in
     let is : o * 2 ^ (d + 1) + (2 ^ d - 1) ≡ 2 * o * 2 ^ d + (2 ^ d - 1) = rw pow-up (omega arith) in
     rw is (rw (shr_high (2 * o) d (2 ^ d - 1) below) (omega arith))
+
+pub same_offset : (d o p : ℕ) → number d o ≡ number d p → o ≡ p
+same_offset d o p same = sym (shifted d o) ∙ ap (λ (n : ℕ). n / 2 ^ d / 2) same ∙ shifted d p
 
 pub number-up : (d o : ℕ) → number (d + 1) o ≡ 2 * number d o + 1
 unfolding number

@@ -10,7 +10,7 @@ use Rattle.std.proofs.Math.Pow.{pow_mono, pow-lt}
 use Rattle.std.proofs.lemmas.Nat.{pow_pos, shr-shr, shr_split, mod_below, xor_shr, ones_cat, div_below, le-div, mul-le}
 use Rattle.std.proofs.lemmas.Nat.Bits.{bit_at_xor, bit_at-lt, bit_at-zero, same_from_bits}
 use Rattle.flat_tree.specs.Subtrees.{Subtree, subtree, end_block_of}
-use Rattle.flat_tree.specs.Roots.{roots_below, full_roots_of, place_past, depth_past}
+use Rattle.flat_tree.specs.Roots.{roots_below, full_roots_of, place_past, depth_past, place_over, depth_over}
 use Rattle.flat_tree.proofs.RootLemmas.{digit, roots-one, roots-zero, root_end, below_pow}
 
 -- numbers without a digit that differs are equal
@@ -174,3 +174,29 @@ over_depth n i d k over within =
 -- as the code finds it
 pub over-code : (n i d : ℕ) → IsOver n i d → IsAmong (full_roots_of n) i d (ones (n / 2 ^ d / 2))
 over-code n i d over = subst (λ (q : ℕ). IsAmong (full_roots_of n) i d (ones q)) (half n d) (over-full n i d over)
+
+-- a number's highest digit
+highest : (k x : ℕ) → 0 < x → x < 2 ^ k → (d : ℕ) × ((2 ^ d ≤ x) × (x < 2 * 2 ^ d))
+highest zero x some small = absurd (omega (arith, some, small))
+highest (suc k) x some small = elim (cases_lt x (2 ^ k)) [
+  | inl less ↦ highest k x some less
+  | inr more ↦ (k, (more, omega (arith, small, pow-succ' 2 k)))
+]
+
+over_some : (n i : ℕ) → i < n → (d : ℕ) × IsOver n i d
+over_some n i less =
+    let top = highest (bit_xor n i) (bit_xor n i) (xor_some n i less) (below_pow (bit_xor n i)) in
+    (top.0, over-xor n i top.0 less top.1.0 top.1.1)
+
+-- the root over a block, as the definitions find it
+pub root-over : (n i : ℕ) → i < n
+    → slice_get (full_roots_of n) (place_over n i) ≡ Some (subtree (depth_over n i) (i / 2 ^ depth_over n i))
+root-over n i less =
+    let over = over_some n i less in
+    let among = over-full n i over.0 over.1 in
+    rw (among.place_is, among.depth_is) among.root
+
+pub depth_over-le : (n i k : ℕ) → i < n → n ≤ 2 ^ k → depth_over n i ≤ k
+depth_over-le n i k less within =
+    let over = over_some n i less in
+    rw (over-full n i over.0 over.1).depth_is (over_depth n i over.0 k over.1 within)

@@ -1,5 +1,5 @@
 -- The full roots of n blocks: they tile 0..n, fall in depth, and are the only list that does both.
-use Rattle.std.proofs.Common.{◌≡◌, ℕ, zero, suc, append_assoc, append-nil, length-append, ◌+◌, ◌-◌, ◌*◌, ◌/◌, ◌%◌, ◌^◌, ◌<◌, ◌≤◌, ◌⊎◌, inl, inr, List, [], ◌∷◌, ◌++◌, length, refl, sym, ◌∙◌, ap, subst, arith, add-one}
+use Rattle.std.proofs.Common.{◌≡◌, ℕ, zero, suc, append_assoc, append-nil, length-append, ◌+◌, ◌-◌, ◌*◌, ◌/◌, ◌%◌, ◌^◌, ◌<◌, ◌≤◌, ◌⊎◌, inl, inr, List, [], ◌∷◌, ◌++◌, length, slice_get, Some, refl, sym, ◌∙◌, ap, subst, arith, add-one}
 use Rattle.std.proofs.lemmas.Bool.{cases_lt, cases_eq, eq-eqb}
 use Rattle.std.proofs.Math.Nat.{pow-succ', mul-div_cancel, mod-le, mod_self, mod-eq_of_lt}
 use Rattle.std.proofs.lemmas.List.{length-map}
@@ -7,7 +7,7 @@ use Rattle.std.proofs.Math.Pow.{pow_mono}
 use Rattle.std.proofs.lemmas.Nat.{pow_pos, shr-shr, shr_split, mod_below, div_below}
 use Rattle.flat_tree.specs.Subtrees.{Subtree, subtree, number, first_block_of, end_block_of, numbers_of, Tile}
 use Rattle.flat_tree.specs.Roots.{roots_below, full_roots_of, Fall, FallBelow}
-use Rattle.flat_tree.proofs.NumberLemmas.{number-first, end-first}
+use Rattle.flat_tree.proofs.NumberLemmas.{number-first, end-first, number_below}
 
 -- the blocks before those of the lower digits
 abbrev pub start_of : ℕ → ℕ → ℕ
@@ -279,3 +279,33 @@ unfolding roots_below
 roots_left-none n left places (k, (is, joined)) none =
     let empty = (low_digits k 0 n (omega arith) (omega (arith, is, none))).0 in
     sym (append-nil places) ∙ ap (λ (trees : List Subtree). places ++ numbers_of trees) (sym empty) ∙ joined
+
+-- a tiling's nodes are less than twice its end
+below_in : (trees : List Subtree) (from to : ℕ) → Tile trees from to → (place node : ℕ)
+    → slice_get (numbers_of trees) place ≡ Some node → node < 2 * to
+below_in [] from to tile place node there = cc
+below_in (tree ∷ trees) from to tile zero node there =
+    let is : number tree.depth tree.offset ≡ node = cc in
+    omega (arith, is, number_below tree.depth tree.offset, tile-le trees _ to tile.1)
+below_in (tree ∷ trees) from to tile (suc place) node there = below_in trees _ to tile.1 place node there
+
+pub numbers_below : (places : List ℕ) (trees : List Subtree) (from to : ℕ) → places ≡ numbers_of trees → Tile trees from to
+    → (place node : ℕ) → slice_get places place ≡ Some node → node < 2 * to
+numbers_below places trees from to is tile place node there =
+    below_in trees from to tile place node (sym (ap (λ (xs : List ℕ). slice_get xs place) is) ∙ there)
+
+pub length-numbers : (places : List ℕ) (trees : List Subtree) → places ≡ numbers_of trees → length places ≡ length trees
+length-numbers places trees is = ap length is ∙ length-map trees (λ (tree : Subtree). number tree.depth tree.offset)
+
+-- each subtree of a tiling is within it
+pub tile-get : (trees : List Subtree) (from to : ℕ) → Tile trees from to → (place : ℕ) (tree : Subtree)
+    → slice_get trees place ≡ Some tree
+    → (from ≤ first_block_of tree.depth tree.offset) × (end_block_of tree.depth tree.offset ≤ to)
+tile-get [] from to tile place tree there = cc
+tile-get (head ∷ trees) from to tile zero tree there =
+    let is : head ≡ tree = cc in
+    subst (λ (t : Subtree). (from ≤ first_block_of t.depth t.offset) × (end_block_of t.depth t.offset ≤ to)) is
+    (omega (arith, tile.0), tile-le trees _ to tile.1)
+tile-get (head ∷ trees) from to tile (suc place) tree there =
+    let rest = tile-get trees _ to tile.1 place tree there in
+    (omega (arith, tile.0, end-first head.depth head.offset, rest.0), rest.1)

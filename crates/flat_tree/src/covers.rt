@@ -1,4 +1,4 @@
-ghost use Rattle.std.specs.Prelude.{ℕ, List, ◌≡◌, ◌<◌, ◌≤◌, ◌+◌, ◌-◌, ◌^◌, length};
+ghost use Rattle.std.specs.Prelude.{ℕ, List, ◌≡◌, ◌<◌, ◌≤◌, ◌+◌, ◌-◌, ◌*◌, ◌^◌, length, slice_get};
 ghost use Rattle.flat_tree.specs.Subtrees.{Subtree, numbers_of, Tile};
 ghost use Rattle.flat_tree.specs.Roots.{full_roots_of};
 ghost use Rattle.flat_tree.specs.Covers.{cover_of, largest_up_to};
@@ -19,6 +19,8 @@ pub fn cover(from: u64, to: u64) -> Places
         → length trees ≤ length (cover_of from to) → trees ≡ cover_of from to }
     ensures roots { from ≡ 0 → cover_of from to ≡ full_roots_of to }
     ensures few { to ≤ MAX_BLOCKS → length (cover_of from to) ≤ MAX_UPGRADE_NODES }
+    ensures room { to ≤ MAX_BLOCKS → length result ≤ MAX_UPGRADE_NODES }
+    ensures below { (place node : ℕ) → slice_get result place ≡ Some node → node < 2 * to }
 {
     let mut places = RoomList::new(0);
     let mut at = from;

@@ -13,7 +13,8 @@ mod roots;
 pub use covers::cover;
 pub use limits::{
     MAX_BATCH_BLOCKS, MAX_BATCH_BYTES, MAX_BLOCK_BYTES, MAX_BLOCKS, MAX_CORE_BYTES, MAX_COUNT,
-    MAX_DEPTH, MAX_FORK, MAX_FRESH_NODES, MAX_NODE, MAX_ROOTS, MAX_SIBLINGS, MAX_UPGRADE_NODES,
+    MAX_DEPTH, MAX_FORK, MAX_FRESH_NODES, MAX_NODE, MAX_PLACES, MAX_ROOTS, MAX_SIBLINGS,
+    MAX_UPGRADE_NODES,
 };
 pub use numbers::{children, depth, index, offset, parent, sibling, spans};
 pub use room_list::{Places, RoomList};

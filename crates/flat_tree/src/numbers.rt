@@ -8,6 +8,8 @@ pub fn index(depth: u32, offset: u64) -> u64
     requires depth { depth ≤ MAX_DEPTH }
     requires offset { offset ≤ 2 ^ (MAX_DEPTH - depth) }
     ensures number { result ≡ number depth offset }
+    ensures leaf { depth ≡ 0 → result ≡ 2 * offset }
+    ensures below { result < 2 * end_block_of depth offset }
     ensures fits { result ≤ MAX_NODE }
 {
     (((2 * offset) + 1) << depth) - 1

@@ -1,5 +1,6 @@
 ghost use Rattle.std.specs.Prelude.{◌≡◌, ◌<◌, ◌+◌, ◌≤◌, List, [], ◌∷◌, ◌++◌, length, take, slice_get};
 
+use crate::limits::MAX_PLACES;
 use std::marker::Model;
 
 /// A list of at most `N` elements, in place.
@@ -18,7 +19,7 @@ impl<T: Copy, const N: usize> Model for RoomList<T, N> {
 }
 
 /// Node numbers, left to right: room for the longest cover of any range of blocks.
-pub type Places = RoomList<u64, 64>;
+pub type Places = RoomList<u64, MAX_PLACES>;
 
 impl<T: Copy, const N: usize> RoomList<T, N> {
     /// The empty list; `blank` fills the free places.
@@ -77,12 +78,30 @@ impl<T: Copy, const N: usize> RoomList<T, N> {
         items[place]
     }
 
+    /// The same list again.
+    pub fn copy(&self) -> Self
+        ensures { result ≡ self.now }
+    {
+        RoomList {
+            items: self.items,
+            len: self.len,
+        }
+    }
+
     /// The elements.
     pub fn as_slice(&self) -> &[T]
         ensures items { result.now ≡ self.now }
         ensures room { length result.now ≤ N }
     {
         &self.items[..self.len]
+    }
+
+    /// Keeps the first `len` elements.
+    pub fn truncate(&mut self, len: usize)
+        requires within { len ≤ length self.old }
+        ensures { self.new ≡ take len self.old }
+    {
+        self.len = len;
     }
 
     /// Takes off every element.

@@ -15,6 +15,8 @@ pub fn full_roots(blocks: u64) -> Places
     ensures only { (trees : List Subtree) → Tile trees 0 blocks → Fall trees
         → trees ≡ full_roots_of blocks }
     ensures few { blocks ≤ MAX_BLOCKS → length (full_roots_of blocks) ≤ MAX_ROOTS }
+    ensures room { blocks ≤ MAX_BLOCKS → length result ≤ MAX_ROOTS }
+    ensures below { (place node : ℕ) → slice_get result place ≡ Some node → node < 2 * blocks }
 {
     let mut places = RoomList::new(0);
     let mut left = blocks;

@@ -2,7 +2,10 @@
 ghost use Rattle.std.specs.Prelude.{ℕ, ◌≡◌, ◌<◌, ◌≤◌, ◌+◌, List, [], ◌∷◌, ◌++◌, length};
 ghost use Rattle.flat_tree.specs.declared.tests.Node.{Node};
 
-use crate::{MAX_ROOTS, RoomList};
+use crate::{
+    MAX_ROOTS, RoomList, children, cover, full_roots, index, offset, parent, root_of_block,
+    sibling, spans,
+};
 use std::marker::Model;
 
 #[derive(Clone, Copy)]
@@ -64,4 +67,32 @@ fn a_list_of_nodes(rt: HostRuntime) {
     head.add(node);
     assert_eq!(rt; head.roots.len(), 1);
     assert_eq!(rt; head.roots.at(0).size, 5);
+}
+
+// The rows are flat-tree's own.
+#[test]
+fn nodes(rt: HostRuntime) {
+    for (depth, place, node, up, beside) in [
+        (0, 5, 10, 9, 8),
+        (1, 2, 9, 11, 13),
+        (2, 0, 3, 7, 11),
+    ] {
+        assert_eq!(rt; index(depth, place), node, "at {depth}, {place}");
+        assert_eq!(rt; crate::depth(node), depth, "depth of {node}");
+        assert_eq!(rt; offset(node), place, "offset of {node}");
+        assert_eq!(rt; parent(node), up, "parent of {node}");
+        assert_eq!(rt; sibling(node), beside, "sibling of {node}");
+    }
+    assert_eq!(rt; children(10), None);
+    assert_eq!(rt; children(9), Some((8, 10)));
+    assert_eq!(rt; spans(9), (8, 10));
+}
+
+#[test]
+fn roots_and_covers(rt: HostRuntime) {
+    assert_eq!(rt; full_roots(0).len(), 0);
+    assert_eq!(rt; full_roots(7).as_slice(), [3, 9, 12].as_slice());
+    assert_eq!(rt; root_of_block(7, 5), (1, 1));
+    assert_eq!(rt; cover(6, 12).as_slice(), [13, 19].as_slice());
+    assert_eq!(rt; cover(1, 7).as_slice(), [2, 5, 9, 12].as_slice());
 }

@@ -1,5 +1,5 @@
 use Rattle.std.proofs.Common.{arith}
-use Rattle.flat_tree.proofs.NumberLemmas.{index_fits, number_shl}
+use Rattle.flat_tree.proofs.NumberLemmas.{index_fits, number_shl, number_below}
 use Rattle.flat_tree.proofs.numbers.index.Goals as goal
 
 pub overflow_sub-result : goal.overflow_sub-result
@@ -10,3 +10,7 @@ returns-clause-number c = omega (arith, index_fits c.args.depth c.args.offset c.
 
 pub returns-clause-fits : goal.returns-clause-fits
 returns-clause-fits c = omega (arith, index_fits c.args.depth c.args.offset c.requires.depth c.requires.offset, number_shl c.args.depth c.args.offset)
+
+pub returns-clause-below : goal.returns-clause-below
+returns-clause-below c =
+    omega (arith, index_fits c.args.depth c.args.offset c.requires.depth c.requires.offset, number_shl c.args.depth c.args.offset, number_below c.args.depth c.args.offset)

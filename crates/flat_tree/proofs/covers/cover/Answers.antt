@@ -1,12 +1,10 @@
-use Rattle.std.proofs.Common.{ℕ, ◌≡◌, ◌<◌, length, ◌∙◌, ap, arith, lit<}
+use Rattle.std.proofs.Common.{ℕ, ◌<◌, length, ◌∙◌, ap, arith, lit<}
 use Rattle.std.proofs.lemmas.Nat.{one_shl}
-use Rattle.flat_tree.specs.Subtrees.{numbers_of}
 use Rattle.flat_tree.specs.Covers.{cover_of}
 use Rattle.flat_tree.specs.declared.limits.TheConstants.{MAX_SIBLINGS, MAX_DEPTH, MAX_PLACES}
 use Rattle.flat_tree.proofs.RootLemmas.{numbers_below, length-numbers}
 use Rattle.flat_tree.proofs.CoverLemmas.{cover-push, cover-room, cover-done, tile-cover, best-cover, cover-full, length-cover}
 use Rattle.flat_tree.proofs.covers.cover.Goals as goal
-use Rattle.flat_tree.proofs.covers.cover.Goals.{After-loop-at}
 
 pub push-requires : goal.push-requires
 push-requires c =
@@ -23,11 +21,8 @@ loop-at-preserved c =
       joined = cover-push c.largest_at.result c.loop-at.at c.args.to _ c.loop-at.places _ _ c.loop-at-test.true c.largest_at.ensures.largest size c.push.ensures c.loop-at.invariant.joined;
     }
 
-numbers : (c : After-loop-at) → c.loop-at.places ≡ numbers_of (cover_of c.args.from c.args.to)
-numbers c = cover-done c.loop-at.at c.args.to c.loop-at.places _ (omega arith) c.loop-at.invariant.joined
-
 pub returns-clause-numbers : goal.returns-clause-numbers
-returns-clause-numbers c = numbers c
+returns-clause-numbers c = cover-done c.loop-at.at c.args.to c.loop-at.places _ (omega arith) c.loop-at.invariant.joined
 
 pub returns-clause-tiles : goal.returns-clause-tiles
 returns-clause-tiles c = tile-cover c.args.from c.args.to c.requires.ordered
@@ -47,9 +42,9 @@ returns-clause-few c few = length-cover MAX_SIBLINGS c.args.from c.args.to (lit<
 pub returns-clause-room : goal.returns-clause-room
 returns-clause-room c few =
     let all = length-cover MAX_SIBLINGS c.args.from c.args.to (lit< tt) c.requires.ordered few in
-    omega (arith, all, length-numbers c.loop-at.places (cover_of c.args.from c.args.to) (numbers c))
+    omega (arith, all, length-numbers c.loop-at.places (cover_of c.args.from c.args.to) (returns-clause-numbers c))
 
 pub returns-clause-below : goal.returns-clause-below
 returns-clause-below c =
-    numbers_below c.loop-at.places (cover_of c.args.from c.args.to) c.args.from c.args.to (numbers c)
+    numbers_below c.loop-at.places (cover_of c.args.from c.args.to) c.args.from c.args.to (returns-clause-numbers c)
     (tile-cover c.args.from c.args.to c.requires.ordered)

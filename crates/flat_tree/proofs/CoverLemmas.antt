@@ -11,8 +11,8 @@ use Rattle.std.proofs.Math.Pow.{pow_mono, pow-lt}
 use Rattle.std.proofs.lemmas.Nat.{pow_pos, shr_split}
 use Rattle.flat_tree.specs.Subtrees.{Subtree, subtree, number, numbers_of, first_block_of, end_block_of, Tile}
 use Rattle.flat_tree.specs.Roots.{FallBelow, full_roots_of}
-use Rattle.flat_tree.specs.Covers.{fits_at, largest_up_to, cover_in, cover_of}
-use Rattle.flat_tree.proofs.NumberLemmas.{end-first, number-first}
+use Rattle.flat_tree.specs.Covers.{fits_at, largest_up_to, depth_at, cover_in, cover_of}
+use Rattle.flat_tree.proofs.NumberLemmas.{end_first, number_first}
 use Rattle.flat_tree.proofs.RootLemmas.{start_of, digit, start-one, start-zero, low_digits, below_pow, tile-le, only-full, same_offset, fall_any}
 
 -- a subtree of depth d begins there, ends in time, and the next larger one doesn't
@@ -70,14 +70,14 @@ largest_most (suc k) from to e within begins ends = elim (cases_Bool (fits_at (s
   ]
 ]
 
-pub largest-is : (from to : ℕ) → from < to → IsLargest (largest_up_to (to - from) from to) from to
+pub largest-is : (from to : ℕ) → from < to → IsLargest (depth_at from to) from to
 largest-is from to some =
     let fits = largest_fits (to - from) from to some in
-    let next : from % 2 ^ suc (largest_up_to (to - from) from to) ≡ 0 → to < from + 2 ^ suc (largest_up_to (to - from) from to) = λ begins.
-    elim (cases_lt to (from + 2 ^ suc (largest_up_to (to - from) from to))) [
+    let next : from % 2 ^ suc (depth_at from to) ≡ 0 → to < from + 2 ^ suc (depth_at from to) = λ begins.
+    elim (cases_lt to (from + 2 ^ suc (depth_at from to))) [
       | inl less ↦ less
       | inr ends ↦
-          let within : suc (largest_up_to (to - from) from to) ≤ to - from = omega (arith, below_pow (suc (largest_up_to (to - from) from to)), ends) in
+          let within : suc (depth_at from to) ≤ to - from = omega (arith, below_pow (suc (depth_at from to)), ends) in
           absurd (omega (arith, largest_most (to - from) from to _ within begins ends))
     ] in
     record { begins = fits.0; ends = fits.1; next = next }
@@ -87,7 +87,7 @@ cover_in-some : (s d from to : ℕ) → IsLargest d from to → cover_in (suc s)
 unfolding cover_in
 cover_in-some s d from to largest =
     let some : from < to = omega (arith, largest.ends, pow_pos d) in
-    let is : largest_up_to (to - from) from to ≡ d = same_largest _ d from to (largest-is from to some) largest in
+    let is : depth_at from to ≡ d = same_largest _ d from to (largest-is from to some) largest in
     rw (lt-ltb from to some, is) refl
 
 cover_in-none : (s from to : ℕ) → to ≤ from → cover_in s from to ≡ []
@@ -103,11 +103,11 @@ cover_in-steps (suc s) (suc t) from to enough_s enough_t = elim (cases_lt from t
   | inr none ↦ cover_in-none (suc s) from to none ∙ sym (cover_in-none (suc t) from to none)
   | inl some ↦
       let largest = largest-is from to some in
-      let positive = pow_pos (largest_up_to (to - from) from to) in
-      let fewer_s : to - (from + 2 ^ largest_up_to (to - from) from to) ≤ s = omega (arith, positive, some) in
-      let fewer_t : to - (from + 2 ^ largest_up_to (to - from) from to) ≤ t = omega (arith, positive, some) in
+      let positive = pow_pos (depth_at from to) in
+      let fewer_s : to - (from + 2 ^ depth_at from to) ≤ s = omega (arith, positive, some) in
+      let fewer_t : to - (from + 2 ^ depth_at from to) ≤ t = omega (arith, positive, some) in
       cover_in-some s _ from to largest
-      ∙ ap (λ (rest : List Subtree). subtree (largest_up_to (to - from) from to) (from / 2 ^ largest_up_to (to - from) from to) ∷ rest) (cover_in-steps s t _ to fewer_s fewer_t)
+      ∙ ap (λ (rest : List Subtree). subtree (depth_at from to) (from / 2 ^ depth_at from to) ∷ rest) (cover_in-steps s t _ to fewer_s fewer_t)
       ∙ sym (cover_in-some t _ from to largest)
 ]
 
@@ -128,7 +128,7 @@ unfolding first_block_of
 largest_first d from to largest = omega (arith, shr_split from d, largest.begins)
 
 largest_end : (d from to : ℕ) → IsLargest d from to → end_block_of d (from / 2 ^ d) ≡ from + 2 ^ d
-largest_end d from to largest = omega (arith, end-first d (from / 2 ^ d), largest_first d from to largest)
+largest_end d from to largest = omega (arith, end_first d (from / 2 ^ d), largest_first d from to largest)
 
 tile_in : (s from to : ℕ) → to - from ≤ s → from ≤ to → Tile (cover_of from to) from to
 tile_in zero from to enough ordered = rw (cover-none from to (omega arith)) (omega arith)
@@ -136,10 +136,10 @@ tile_in (suc s) from to enough ordered = elim (cases_lt from to) [
   | inr none ↦ rw (cover-none from to none) (omega arith)
   | inl some ↦
       let largest = largest-is from to some in
-      let fewer : to - (from + 2 ^ largest_up_to (to - from) from to) ≤ s = omega (arith, some, pow_pos (largest_up_to (to - from) from to)) in
+      let fewer : to - (from + 2 ^ depth_at from to) ≤ s = omega (arith, some, pow_pos (depth_at from to)) in
       rw (cover-some _ from to largest) (
         largest_first _ from to largest,
-        subst (λ (at : ℕ). Tile (cover_of (from + 2 ^ largest_up_to (to - from) from to) to) at to) (sym (largest_end _ from to largest))
+        subst (λ (at : ℕ). Tile (cover_of (from + 2 ^ depth_at from to) to) at to) (sym (largest_end _ from to largest))
             (tile_in s _ to fewer largest.ends),
       )
 ]
@@ -175,7 +175,7 @@ inside from d to least (tree ∷ trees) at begins ends rest tile after before =
       | inl less ↦ less
       | inr more ↦ absurd (omega (arith, apart from at d begins (begins_lower at d tree.depth more here) after, before))
     ] in
-    let end : end_block_of tree.depth tree.offset ≡ at + 2 ^ tree.depth = omega (arith, end-first tree.depth tree.offset, tile.0) in
+    let end : end_block_of tree.depth tree.offset ≡ at + 2 ^ tree.depth = omega (arith, end_first tree.depth tree.offset, tile.0) in
     let further = subst (λ (b : ℕ). Tile trees b to) end tile.1 in
     let within : tree.depth ≤ d = omega (arith, lower) in
     let stays : at + 2 ^ tree.depth ≤ from + 2 ^ d = apart at (from + 2 ^ d) tree.depth here (begins_after from d tree.depth within begins) before in
@@ -196,7 +196,7 @@ best_step : (d from to : ℕ) (tree : Subtree) (trees : List Subtree) → IsLarg
     → ((ts : List Subtree) → Tile ts (from + 2 ^ d) to → IsBest (from + 2 ^ d) to ts) → IsBest from to (tree ∷ trees)
 best_step d from to tree trees largest tile rest =
     let here = begins_first tree.depth tree.offset from tile.0 in
-    let end : end_block_of tree.depth tree.offset ≡ from + 2 ^ tree.depth = omega (arith, end-first tree.depth tree.offset, tile.0) in
+    let end : end_block_of tree.depth tree.offset ≡ from + 2 ^ tree.depth = omega (arith, end_first tree.depth tree.offset, tile.0) in
     let further = subst (λ (b : ℕ). Tile trees b to) end tile.1 in
     let ends : from + 2 ^ tree.depth ≤ to = tile-le trees _ to further in
     let is = cover-some d from to largest in
@@ -220,10 +220,10 @@ best_step d from to tree trees largest tile rest =
 best_in : (s from to : ℕ) → to - from ≤ s → (trees : List Subtree) → Tile trees from to → IsBest from to trees
 best_in s from to enough [] tile = rw (cover-none from to (omega (arith, tile))) (omega arith, λ _. refl)
 best_in zero from to enough (tree ∷ trees) tile =
-    absurd (omega (arith, tile.0, end-first tree.depth tree.offset, tile-le trees _ to tile.1, pow_pos tree.depth))
+    absurd (omega (arith, tile.0, end_first tree.depth tree.offset, tile-le trees _ to tile.1, pow_pos tree.depth))
 best_in (suc s) from to enough (tree ∷ trees) tile =
-    let some : from < to = omega (arith, tile.0, end-first tree.depth tree.offset, tile-le trees _ to tile.1, pow_pos tree.depth) in
-    let fewer : to - (from + 2 ^ largest_up_to (to - from) from to) ≤ s = omega (arith, some, pow_pos (largest_up_to (to - from) from to)) in
+    let some : from < to = omega (arith, tile.0, end_first tree.depth tree.offset, tile-le trees _ to tile.1, pow_pos tree.depth) in
+    let fewer : to - (from + 2 ^ depth_at from to) ≤ s = omega (arith, some, pow_pos (depth_at from to)) in
     best_step _ from to tree trees (largest-is from to some) tile (best_in s _ to fewer)
 
 pub best-cover : (from to : ℕ) (trees : List Subtree) → Tile trees from to → IsBest from to trees
@@ -271,7 +271,7 @@ length_in : (s from to m j : ℕ) → to - from ≤ s → from % 2 ^ j ≡ 0 →
 length_in zero from to m j enough begins below within = rw (cover-none from to (omega arith)) (omega (arith, within))
 length_in (suc s) from to m j enough begins below within = elim (cases_lt from to) [
   | inr none ↦ rw (cover-none from to none) (omega (arith, within))
-  | inl some ↦ length_step s (largest_up_to (to - from) from to) from to m j enough begins below within (largest-is from to some) (length_in s (from + 2 ^ largest_up_to (to - from) from to) to)
+  | inl some ↦ length_step s (depth_at from to) from to m j enough begins below within (largest-is from to some) (length_in s (from + 2 ^ depth_at from to) to)
 ]
 
 pub length-cover : (k from to : ℕ) → 0 < k → from ≤ to → to ≤ 2 ^ k → length (cover_of from to) ≤ 2 * k
@@ -287,7 +287,7 @@ fall_in : (s from to b : ℕ) → to - from ≤ s → from % 2 ^ b ≡ 0 → to 
 fall_in zero from to b enough begins below = rw (cover-none from to (omega arith)) tt
 fall_in (suc s) from to b enough begins below = elim (cases_lt from to) [
   | inr none ↦ rw (cover-none from to none) tt
-  | inl some ↦ fall_step s (largest_up_to (to - from) from to) from to b enough begins below (largest-is from to some) (fall_in s (from + 2 ^ largest_up_to (to - from) from to) to)
+  | inl some ↦ fall_step s (depth_at from to) from to b enough begins below (largest-is from to some) (fall_in s (from + 2 ^ depth_at from to) to)
 ]
 
 pub cover-full : (n : ℕ) → cover_of 0 n ≡ full_roots_of n
@@ -331,16 +331,16 @@ largest-aligned d r from to small some is less wide low =
       next = λ even. absurd (omega (arith, even, begins, start-one d from one, shr_split from d, shr_split from (suc d), pow_pos d));
     }
 
-pub largest-code : (d from to : ℕ) → from < to → IsLargest d from to → d ≡ largest_up_to (to - from) from to
+pub largest-code : (d from to : ℕ) → from < to → IsLargest d from to → d ≡ depth_at from to
 largest-code d from to some largest = same_largest d _ from to largest (largest-is from to some)
 
 -- the next place of a cover
-pub cover-push : (d at to size : ℕ) (places more all : List ℕ) → at < to → d ≡ largest_up_to (to - at) at to → size ≡ 2 ^ d
+pub cover-push : (d at to size : ℕ) (places more all : List ℕ) → at < to → d ≡ depth_at at to → size ≡ 2 ^ d
     → more ≡ places ++ (2 * at + size - 1) ∷ [] → places ++ numbers_of (cover_of at to) ≡ all
     → more ++ numbers_of (cover_of (at + size) to) ≡ all
 cover-push d at to size places more all some is size_is pushed joined =
     let largest = subst (λ (k : ℕ). IsLargest k at to) (sym is) (largest-is at to some) in
-    let here : 2 * at + size - 1 ≡ number d (at / 2 ^ d) = omega (arith, size_is, number-first d (at / 2 ^ d), largest_first d at to largest) in
+    let here : 2 * at + size - 1 ≡ number d (at / 2 ^ d) = omega (arith, size_is, number_first d (at / 2 ^ d), largest_first d at to largest) in
     let next : at + size ≡ at + 2 ^ d = omega (arith, size_is) in
     ap (λ (xs : List ℕ). xs ++ numbers_of (cover_of (at + size) to)) pushed
     ∙ append_assoc places ((2 * at + size - 1) ∷ []) (numbers_of (cover_of (at + size) to))

@@ -10,18 +10,18 @@ use Rattle.std.proofs.lemmas.Nat.Bits.{bit_at_cat_low, bit_at_ones, bit_at_ones_
 use Rattle.flat_tree.specs.Subtrees.{number, first_block_of, end_block_of}
 
 -- one more digit
-pub pow-up : (d : ℕ) → 2 ^ (d + 1) ≡ 2 * 2 ^ d
-pow-up d = ap (λ (k : ℕ). 2 ^ k) (add-one d) ∙ pow-succ' 2 d
+pub pow_up : (d : ℕ) → 2 ^ (d + 1) ≡ 2 * 2 ^ d
+pow_up d = ap (λ (k : ℕ). 2 ^ k) (add-one d) ∙ pow-succ' 2 d
 
 -- a node and its first block
-pub number-first : (d o : ℕ) → number d o + 1 ≡ 2 * first_block_of d o + 2 ^ d
+pub number_first : (d o : ℕ) → number d o + 1 ≡ 2 * first_block_of d o + 2 ^ d
 unfolding number first_block_of
-number-first d o = rw pow-up (omega (arith, pow_pos d))
+number_first d o = rw pow_up (omega (arith, pow_pos d))
 
 -- a subtree has 2 ^ depth blocks
-pub end-first : (d o : ℕ) → end_block_of d o ≡ first_block_of d o + 2 ^ d
+pub end_first : (d o : ℕ) → end_block_of d o ≡ first_block_of d o + 2 ^ d
 unfolding first_block_of end_block_of
-end-first d o = omega arith
+end_first d o = omega arith
 
 -- the halves of a subtree have its blocks
 pub first-suc : (d o : ℕ) → first_block_of (suc d) o ≡ first_block_of d (2 * o)
@@ -45,18 +45,18 @@ leaf o = (omega arith, omega arith, omega arith)
 pub inside_of : (d i : ℕ) → (first_block_of d (i / 2 ^ d) ≤ i) × (i < end_block_of d (i / 2 ^ d))
 unfolding first_block_of
 inside_of d i =
-    (omega (arith, shr_split i d), omega (arith, end-first d (i / 2 ^ d), shr_split i d, mod_below i (2 ^ d) (pow_pos d)))
+    (omega (arith, shr_split i d), omega (arith, end_first d (i / 2 ^ d), shr_split i d, mod_below i (2 ^ d) (pow_pos d)))
 
 pub inside_only : (d o i : ℕ) → first_block_of d o ≤ i → i < end_block_of d o → i / 2 ^ d ≡ o
 unfolding first_block_of
 inside_only d o i low high =
-    let rest : i - o * 2 ^ d < 2 ^ d = omega (arith, end-first d o, low, high) in
+    let rest : i - o * 2 ^ d < 2 ^ d = omega (arith, end_first d o, low, high) in
     let is : i ≡ o * 2 ^ d + (i - o * 2 ^ d) = omega (arith, low) in
     ap (λ (n : ℕ). n / 2 ^ d) is ∙ shr_high o d (i - o * 2 ^ d) rest
 
 -- a node is less than twice the end of its blocks
 pub number_below : (d o : ℕ) → number d o < 2 * end_block_of d o
-number_below d o = omega (arith, number-first d o, end-first d o)
+number_below d o = omega (arith, number_first d o, end_first d o)
 
 -- the digits of a node: ones below its depth, and a zero there
 bit-below : (d o i : ℕ) → i < d → bit_at (number d o) i ≡ 1
@@ -100,15 +100,15 @@ pub shifted : (d o : ℕ) → number d o / 2 ^ d / 2 ≡ o
 unfolding number
 shifted d o =
     let below : 2 ^ d - 1 < 2 ^ d = omega (arith, pow_pos d) in
-    let is : o * 2 ^ (d + 1) + (2 ^ d - 1) ≡ 2 * o * 2 ^ d + (2 ^ d - 1) = rw pow-up (omega arith) in
+    let is : o * 2 ^ (d + 1) + (2 ^ d - 1) ≡ 2 * o * 2 ^ d + (2 ^ d - 1) = rw pow_up (omega arith) in
     rw is (rw (shr_high (2 * o) d (2 ^ d - 1) below) (omega arith))
 
-pub same_offset : (d o p : ℕ) → number d o ≡ number d p → o ≡ p
-same_offset d o p same = sym (shifted d o) ∙ ap (λ (n : ℕ). n / 2 ^ d / 2) same ∙ shifted d p
+pub same_place : (d o p : ℕ) → number d o ≡ number d p → o ≡ p
+same_place d o p same = sym (shifted d o) ∙ ap (λ (n : ℕ). n / 2 ^ d / 2) same ∙ shifted d p
 
 pub number-up : (d o : ℕ) → number (d + 1) o ≡ 2 * number d o + 1
 unfolding number
-number-up d o = rw (pow-up (d + 1), pow-up d) (omega (arith, pow_pos d))
+number-up d o = rw (pow_up (d + 1), pow_up d) (omega (arith, pow_pos d))
 
 -- every number is a node
 some_in : (k n : ℕ) → n < k → (d : ℕ) × ((o : ℕ) × (n ≡ number d o))
@@ -129,7 +129,7 @@ some_number n = some_in (n + 1) n (omega arith)
 -- a node's depth is bounded by its digits
 pub depth_below : (d o k : ℕ) → number d o < 2 ^ k → d ≤ k
 depth_below d o k below = elim (cases_lt k d) [
-  | inl deeper ↦ omega (arith, number-first d o, pow-lt deeper)
+  | inl deeper ↦ omega (arith, number_first d o, pow-lt deeper)
   | inr fits ↦ fits
 ]
 
@@ -139,28 +139,28 @@ unfolding number
 parent_of_left d o left =
     let half : o ≡ 2 * (o / 2) = omega arith in
     let P : ℕ → Type 0 = λ n. number d n + 2 ^ d ≡ number (d + 1) (o / 2) in
-    subst P (sym half) (rw (pow-up (d + 1), pow-up d) (omega (arith, pow_pos d)))
+    subst P (sym half) (rw (pow_up (d + 1), pow_up d) (omega (arith, pow_pos d)))
 
 pub parent_of_right : (d o : ℕ) → o % 2 ≡ 1 → number d o ≡ number (d + 1) (o / 2) + 2 ^ d
 unfolding number
 parent_of_right d o right =
     let half : o ≡ 2 * (o / 2) + 1 = omega arith in
     let P : ℕ → Type 0 = λ n. number d n ≡ number (d + 1) (o / 2) + 2 ^ d in
-    subst P (sym half) (rw (pow-up (d + 1), pow-up d) (omega (arith, pow_pos d)))
+    subst P (sym half) (rw (pow_up (d + 1), pow_up d) (omega (arith, pow_pos d)))
 
 -- one place further in a row
 pub number-next : (d o : ℕ) → number d (o + 1) ≡ number d o + 2 * 2 ^ d
 unfolding number
-number-next d o = rw pow-up (omega arith)
+number-next d o = rw pow_up (omega arith)
 
 -- the halves of a subtree
 pub left_half : (d o : ℕ) → number (d + 1) o ≡ number d (2 * o) + 2 ^ d
 unfolding number
-left_half d o = rw (pow-up (d + 1), pow-up d) (omega (arith, pow_pos d))
+left_half d o = rw (pow_up (d + 1), pow_up d) (omega (arith, pow_pos d))
 
 pub right_half : (d o : ℕ) → number d (2 * o + 1) ≡ number (d + 1) o + 2 ^ d
 unfolding number
-right_half d o = rw (pow-up (d + 1), pow-up d) (omega (arith, pow_pos d))
+right_half d o = rw (pow_up (d + 1), pow_up d) (omega (arith, pow_pos d))
 
 pub depth_some : (node t : ℕ) → node + 1 < 2 ^ 64 → t ≡ trailing_ones w64 node → (o : ℕ) × (node ≡ number t o)
 depth_some node t small is =
@@ -170,13 +170,10 @@ depth_some node t small is =
 
 -- a node is no less than its reach
 pub reach_below : (d o : ℕ) → 2 ^ d ≤ number d o + 1
-reach_below d o = omega (arith, number-first d o)
+reach_below d o = omega (arith, number_first d o)
 
 pub shl_one : (t d : ℕ) → t ≡ d → t < 63 → 1 * 2 ^ t % 2 ^ 64 ≡ 2 ^ d
 shl_one t d same small = let P : ℕ → Type 0 = λ n. 1 * 2 ^ t % 2 ^ 64 ≡ 2 ^ n in subst P same (one_shl t 64 (omega arith))
-
-pub shl_two : (t d : ℕ) → t ≡ d → t < 63 → 2 * 2 ^ t % 2 ^ 64 ≡ 2 * 2 ^ d
-shl_two t d same small = let P : ℕ → Type 0 = λ n. 2 * 2 ^ t % 2 ^ 64 ≡ 2 * 2 ^ n in subst P same (shl_whole 2 2 t 64 (lit< tt) (omega arith))
 
 -- the sibling of a left and of a right half
 pub sibling_of_left : (d o : ℕ) → o % 2 ≡ 0 → number d o + 2 * 2 ^ d ≡ number d (o + 1 - 2 * (o % 2))
@@ -187,17 +184,9 @@ sibling_of_right d o right =
     let before : o + 1 - 2 * (o % 2) + 1 ≡ o = omega arith in
     ap (λ (n : ℕ). number d n) (sym before) ∙ number-next d (o + 1 - 2 * (o % 2))
 
--- half of a subtree that is no leaf is less than its reach
-pub depth_half : (t : ℕ) → 0 < t → t < 63 → 1 * 2 ^ (t - 1) % 2 ^ 64 + 1 ≤ 2 ^ t
-depth_half t above small =
-    let half = shl_one (t - 1) (t - 1) refl (omega arith) in
-    let is : t - 1 + 1 ≡ t = omega arith in
-    let whole : 2 ^ t ≡ 2 * 2 ^ (t - 1) = ap (λ (k : ℕ). 2 ^ k) (sym is) ∙ pow-up (t - 1) in
-    omega (arith, half, whole, pow_pos (t - 1))
-
 pub number_shl : (d o : ℕ) → (2 * o + 1) * 2 ^ d ≡ number d o + 1
 unfolding number
-number_shl d o = rw pow-up (omega (arith, pow_pos d))
+number_shl d o = rw pow_up (omega (arith, pow_pos d))
 
 -- the largest number that is asked for
 pub index_fits : (d o : ℕ) → d ≤ MAX_DEPTH → o ≤ 2 ^ (MAX_DEPTH - d) → (2 * o + 1) * 2 ^ d ≤ MAX_NODE

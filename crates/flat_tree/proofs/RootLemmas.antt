@@ -7,7 +7,7 @@ use Rattle.std.proofs.Math.Pow.{pow_mono}
 use Rattle.std.proofs.lemmas.Nat.{pow_pos, shr-shr, shr_split, mod_below, div_below}
 use Rattle.flat_tree.specs.Subtrees.{Subtree, subtree, number, first_block_of, end_block_of, numbers_of, Tile}
 use Rattle.flat_tree.specs.Roots.{roots_below, full_roots_of, Fall, FallBelow}
-use Rattle.flat_tree.proofs.NumberLemmas.{number-first, end-first, number_below}
+use Rattle.flat_tree.proofs.NumberLemmas.{number_first, end_first, number_below}
 
 -- the blocks before those of the lower digits
 abbrev pub start_of : ℕ → ℕ → ℕ
@@ -49,7 +49,7 @@ root_start d n one =
     omega (arith, times, start-one d n one)
 
 pub root_end : (d n : ℕ) → n / 2 ^ d % 2 ≡ 1 → end_block_of d (n / 2 ^ d - 1) ≡ start_of d n
-root_end d n one = omega (arith, end-first d (n / 2 ^ d - 1), root_start d n one, start-one d n one)
+root_end d n one = omega (arith, end_first d (n / 2 ^ d - 1), root_start d n one, start-one d n one)
 
 pub tile-roots : (d n : ℕ) → Tile (roots_below d n) (start_of d n) n
 unfolding roots_below
@@ -75,14 +75,14 @@ fall-roots (suc d) n = elim (digit d n) [
 -- a tiling goes up
 pub tile-le : (trees : List Subtree) (from to : ℕ) → Tile trees from to → from ≤ to
 tile-le [] from to tile = omega (arith, tile)
-tile-le (tree ∷ trees) from to tile = omega (arith, tile.0, end-first tree.depth tree.offset, tile-le trees _ to tile.1)
+tile-le (tree ∷ trees) from to tile = omega (arith, tile.0, end_first tree.depth tree.offset, tile-le trees _ to tile.1)
 
 -- falling subtrees have fewer blocks than the next larger subtree
 tile-fall : (trees : List Subtree) (bound from to : ℕ) → FallBelow bound trees → Tile trees from to → to < from + 2 ^ bound
 tile-fall [] bound from to falls tile = omega (arith, tile, pow_pos bound)
 tile-fall (tree ∷ trees) bound from to falls tile =
     let up : suc tree.depth ≤ bound = omega (arith, falls.0) in
-    omega (arith, tile.0, end-first tree.depth tree.offset, tile-fall trees tree.depth _ to falls.1 tile.1, pow_mono up, pow-succ' 2 tree.depth)
+    omega (arith, tile.0, end_first tree.depth tree.offset, tile-fall trees tree.depth _ to falls.1 tile.1, pow_mono up, pow-succ' 2 tree.depth)
 
 -- subtrees of one depth that begin at one block are one
 pub same_offset : (d o p : ℕ) → first_block_of d o ≡ first_block_of d p → o ≡ p
@@ -116,7 +116,7 @@ only-roots (suc d) n (tree ∷ trees) tile falls = elim (digit d n) [
   | inr none ↦ elim (cases_eq tree.depth d) [
     | inl same ↦
         let size : 2 ^ tree.depth ≡ 2 ^ d = ap (λ (k : ℕ). 2 ^ k) same in
-        absurd (omega (arith, size, tile.0, end-first tree.depth tree.offset, tile-le trees _ n tile.1, start-zero d n none, shr_split n d, mod_below n (2 ^ d) (pow_pos d)))
+        absurd (omega (arith, size, tile.0, end_first tree.depth tree.offset, tile-le trees _ n tile.1, start-zero d n none, shr_split n d, mod_below n (2 ^ d) (pow_pos d)))
     | inr lower ↦
         let deep : tree.depth < d = omega (arith, falls.0, lower) in
         let begins = tile.0 ∙ sym (start-zero d n none) in
@@ -181,7 +181,7 @@ fall_within : (n : ℕ) (trees : List Subtree) → Tile trees 0 n → Fall trees
 fall_within n [] tile falls = tt
 fall_within n (tree ∷ trees) tile falls = elim (cases_lt tree.depth n) [
   | inl deep ↦ (deep, falls)
-  | inr high ↦ absurd (omega (arith, pow_mono high, below_pow n, end-first tree.depth tree.offset, tile-le trees _ n tile.1))
+  | inr high ↦ absurd (omega (arith, pow_mono high, below_pow n, end_first tree.depth tree.offset, tile-le trees _ n tile.1))
 ]
 
 pub only-full : (n : ℕ) (trees : List Subtree) → Tile trees 0 n → Fall trees → trees ≡ full_roots_of n
@@ -241,7 +241,7 @@ step n left d places (k, (is, joined)) low high = elim (cases_lt d k) [
         | inr none ↦ absurd (omega (arith, equal, low, start-zero d n none, shr_split n d, shr_split n (suc d), mod_below n (2 ^ d) (pow_pos d)))
         | inl one ↦
             let here : 2 * (n - left) + 2 ^ d - 1 ≡ number d (n / 2 ^ d - 1) =
-            omega (arith, equal, shr_split n (suc d), root_start d n one, number-first d (n / 2 ^ d - 1)) in
+            omega (arith, equal, shr_split n (suc d), root_start d n one, number_first d (n / 2 ^ d - 1)) in
             let rest : left - 2 ^ d ≡ n % 2 ^ d = omega (arith, equal, start-one d n one, shr_split n d, shr_split n (suc d)) in
             let split = lower.0 ∙ roots-one d n one in (
               d,
@@ -308,4 +308,4 @@ tile-get (head ∷ trees) from to tile zero tree there =
     (omega (arith, tile.0), tile-le trees _ to tile.1)
 tile-get (head ∷ trees) from to tile (suc place) tree there =
     let rest = tile-get trees _ to tile.1 place tree there in
-    (omega (arith, tile.0, end-first head.depth head.offset, rest.0), rest.1)
+    (omega (arith, tile.0, end_first head.depth head.offset, rest.0), rest.1)

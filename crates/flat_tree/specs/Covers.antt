@@ -13,11 +13,15 @@ largest_up_to (suc depth) from to =
     let smaller = largest_up_to depth from to in
     if fits_at (suc depth) from to then suc depth else smaller
 
+-- the depth of the largest subtree that begins at the first block and ends within the range
+abbrev pub depth_at : ℕ → ℕ → ℕ
+depth_at from to = largest_up_to (to - from) from to
+
 -- at each place the largest subtree that begins there and ends within the range, so many times at most
 unfoldable pub cover_in : ℕ → ℕ → ℕ → List Subtree
 cover_in zero from to = []
 cover_in (suc steps) from to =
-    let depth = largest_up_to (to - from) from to in
+    let depth = depth_at from to in
     let rest = cover_in steps (from + 2 ^ depth) to in
     if nat_lt from to then subtree depth (from / 2 ^ depth) ∷ rest else []
 

@@ -2,10 +2,12 @@
 -- 2 ^ depth blocks from offset * 2 ^ depth on.
 use Rattle.std.specs.Prelude.{ℕ, List, [], ◌∷◌, ◌≡◌, ◌+◌, ◌-◌, ◌*◌, ◌^◌, map}
 
+-- a subtree by the row that it stands in and its place there
 pub record Subtree : Type 0 where
   pub depth : ℕ
   pub offset : ℕ
 
+-- the subtree at a depth and an offset
 abbrev pub subtree : ℕ → ℕ → Subtree
 subtree depth offset = record { depth = depth; offset = offset }
 

@@ -1,7 +1,7 @@
 ghost use Rattle.std.specs.Prelude.{ℕ, List, ◌≡◌, ◌<◌, ◌≤◌, ◌+◌, ◌-◌, ◌*◌, ◌^◌, length, slice_get};
 ghost use Rattle.flat_tree.specs.Subtrees.{Subtree, numbers_of, Tile};
 ghost use Rattle.flat_tree.specs.Roots.{full_roots_of};
-ghost use Rattle.flat_tree.specs.Covers.{cover_of, largest_up_to};
+ghost use Rattle.flat_tree.specs.Covers.{cover_of, depth_at};
 
 use crate::limits::{MAX_BLOCKS, MAX_COUNT, MAX_UPGRADE_NODES};
 use crate::room_list::{Places, RoomList};
@@ -35,7 +35,7 @@ pub fn cover(from: u64, to: u64) -> Places
 // The depth of the largest subtree that begins at a block and ends within the range.
 fn largest_at(from: u64, to: u64) -> u32
     requires some { from < to }
-    ensures largest { result ≡ largest_up_to (to - from) from to }
+    ensures largest { result ≡ depth_at from to }
     ensures within { from + 2 ^ result ≤ to }
     ensures fits { result < 64 }
 {

@@ -36,28 +36,30 @@ pub fn offset(node: u64) -> u64
 }
 
 /// The node of the subtree that a node's subtree is half of.
+#[tactic(auto, using(crate::proofs::NumberLemmas::parent_of_left, crate::proofs::NumberLemmas::parent_of_right))]
 pub fn parent(node: u64) -> u64
     requires within { node ≤ MAX_NODE }
     ensures parent { (depth offset : ℕ) → node ≡ number depth offset
         → result ≡ number (depth + 1) (offset / 2) }
     ensures fits { result ≤ 2 * node + 1 }
 {
-    let half = 1u64 << depth(node);
+    let size = size_of(node);
     if offset(node) % 2 == 0 {
-        node + half
+        node + size
     } else {
-        node - half
+        node - size
     }
 }
 
 /// The node of the other half of the parent's subtree.
+#[tactic(auto, using(crate::proofs::NumberLemmas::sibling_of_left, crate::proofs::NumberLemmas::sibling_of_right))]
 pub fn sibling(node: u64) -> u64
     requires within { node ≤ MAX_NODE }
     ensures sibling { (depth offset : ℕ) → node ≡ number depth offset
         → result ≡ number depth (offset + 1 - 2 * (offset % 2)) }
     ensures fits { result ≤ 3 * node + 2 }
 {
-    let step = 2u64 << depth(node);
+    let step = 2 * size_of(node);
     if offset(node) % 2 == 0 {
         node + step
     } else {
@@ -66,21 +68,23 @@ pub fn sibling(node: u64) -> u64
 }
 
 /// The nodes of a subtree's left and right half; a leaf has none.
+#[tactic(auto, using(crate::proofs::NumberLemmas::left_half, crate::proofs::NumberLemmas::right_half, crate::proofs::NumberLemmas::pow_up))]
 pub fn children(node: u64) -> Option<(u64, u64)>
     requires within { node ≤ MAX_NODE }
     ensures leaf { (offset : ℕ) → node ≡ number 0 offset → result ≡ None }
     ensures halves { (depth offset : ℕ) → node ≡ number (depth + 1) offset
         → result ≡ Some (number depth (2 * offset), number depth (2 * offset + 1)) }
 {
-    let depth = depth(node);
-    if depth == 0 {
+    let size = size_of(node);
+    if size == 1 {
         return None;
     }
-    let half = 1u64 << (depth - 1);
+    let half = size / 2;
     Some((node - half, node + half))
 }
 
 /// The first and the last leaf under a node, which are twice its first and its last block.
+#[tactic(auto, using(crate::proofs::NumberLemmas::number_first, crate::proofs::NumberLemmas::end_first))]
 pub fn spans(node: u64) -> (u64, u64)
     requires within { node ≤ MAX_NODE }
     ensures first { (depth offset : ℕ) → node ≡ number depth offset
@@ -88,6 +92,16 @@ pub fn spans(node: u64) -> (u64, u64)
     ensures last { (depth offset : ℕ) → node ≡ number depth offset
         → result.1 + 2 ≡ 2 * end_block_of depth offset }
 {
-    let reach = (1u64 << depth(node)) - 1;
+    let reach = size_of(node) - 1;
     (node - reach, node + reach)
+}
+
+// How many blocks a node's subtree has.
+fn size_of(node: u64) -> u64
+    requires within { node ≤ MAX_NODE }
+    ensures size { (depth offset : ℕ) → node ≡ number depth offset → result ≡ 2 ^ depth }
+    ensures some { 0 < result }
+    ensures fits { result ≤ node + 1 }
+{
+    1 << depth(node)
 }

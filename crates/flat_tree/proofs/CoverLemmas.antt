@@ -41,7 +41,10 @@ same_largest d e from to here there = elim (cases_lt d e) [
 
 -- the test, and the search from above
 fits_true : (d from to : ℕ) → from % 2 ^ d ≡ 0 → from + 2 ^ d ≤ to → fits_at d from to ≡ true
-fits_true d from to begins ends = and_from (nat_eq (from % 2 ^ d) 0) (nat_le (from + 2 ^ d) to) (eq-eqb (from % 2 ^ d) 0 begins) (le-leb (from + 2 ^ d) to ends)
+fits_true d from to begins ends =
+    let first = eq-eqb (from % 2 ^ d) 0 begins in
+    let last = le-leb (from + 2 ^ d) to ends in
+    and_from (nat_eq (from % 2 ^ d) 0) (nat_le (from + 2 ^ d) to) first last
 
 true_fits : (d from to : ℕ) → fits_at d from to ≡ true → (from % 2 ^ d ≡ 0) × (from + 2 ^ d ≤ to)
 true_fits d from to fits =
@@ -107,7 +110,8 @@ cover_in-steps (suc s) (suc t) from to enough_s enough_t = elim (cases_lt from t
       let fewer_s : to - (from + 2 ^ depth_at from to) ≤ s = omega (arith, positive, some) in
       let fewer_t : to - (from + 2 ^ depth_at from to) ≤ t = omega (arith, positive, some) in
       cover_in-some s _ from to largest
-      ∙ ap (λ (rest : List Subtree). subtree (depth_at from to) (from / 2 ^ depth_at from to) ∷ rest) (cover_in-steps s t _ to fewer_s fewer_t)
+      ∙ ap (λ (rest : List Subtree). subtree (depth_at from to) (from / 2 ^ depth_at from to) ∷ rest)
+      (cover_in-steps s t _ to fewer_s fewer_t)
       ∙ sym (cover_in-some t _ from to largest)
 ]
 
@@ -116,7 +120,8 @@ unfolding cover_of
 cover-some d from to largest =
     cover_in-steps (to - from) (suc (to - from)) from to (omega arith) (omega arith)
     ∙ cover_in-some (to - from) d from to largest
-    ∙ ap (λ (rest : List Subtree). subtree d (from / 2 ^ d) ∷ rest) (cover_in-steps (to - from) (to - (from + 2 ^ d)) (from + 2 ^ d) to (omega arith) (omega arith))
+    ∙ ap (λ (rest : List Subtree). subtree d (from / 2 ^ d) ∷ rest)
+    (cover_in-steps (to - from) (to - (from + 2 ^ d)) (from + 2 ^ d) to (omega arith) (omega arith))
 
 pub cover-none : (from to : ℕ) → to ≤ from → cover_of from to ≡ []
 unfolding cover_of
@@ -205,10 +210,15 @@ best_step d from to tree trees largest tile rest =
       | inr within ↦ elim (cases_eq tree.depth d) [
         | inl same ↦
             let begins = ap (λ (k : ℕ). first_block_of k tree.offset) (sym same) ∙ tile.0 ∙ sym (largest_first d from to largest) in
-            let tree_is : tree ≡ subtree d (from / 2 ^ d) = ap (λ (k : ℕ). subtree k tree.offset) same ∙ ap (λ (o : ℕ). subtree d o) (same_offset d tree.offset (from / 2 ^ d) begins) in
+            let place = same_offset d tree.offset (from / 2 ^ d) begins in
+            let tree_is : tree ≡ subtree d (from / 2 ^ d) = ap (λ (k : ℕ). subtree k tree.offset) same ∙ ap (λ (o : ℕ). subtree d o) place in
             let after = subst (λ (k : ℕ). Tile trees (from + 2 ^ k) to) same further in
             let lower = rest trees after in
-            rw is (omega (arith, lower.0), λ few. ap (λ (t : Subtree). t ∷ trees) tree_is ∙ ap (λ (ts : List Subtree). subtree d (from / 2 ^ d) ∷ ts) (lower.1 (omega (arith, few))))
+            rw is (
+              omega (arith, lower.0),
+              λ few.
+                  ap (λ (t : Subtree). t ∷ trees) tree_is ∙ ap (λ (ts : List Subtree). subtree d (from / 2 ^ d) ∷ ts) (lower.1 (omega (arith, few))),
+            )
         | inr other ↦
             let less : tree.depth < d = omega arith in
             let more = inside from d to (length (cover_of (from + 2 ^ d) to)) trees (from + 2 ^ tree.depth) largest.begins largest.ends
@@ -240,7 +250,8 @@ even_after n d begins odd = elim (digit d n) [
 
 -- the depths rise, and then fall: a step of either
 length_step : (s d from to m j : ℕ) → to - from ≤ suc s → from % 2 ^ j ≡ 0 → to < from + 2 ^ m → j ≤ m → IsLargest d from to
-    → ((n k : ℕ) → to - (from + 2 ^ d) ≤ s → (from + 2 ^ d) % 2 ^ k ≡ 0 → to < from + 2 ^ d + 2 ^ n → k ≤ n → length (cover_of (from + 2 ^ d) to) + k ≤ 2 * n)
+    → ((n k : ℕ) → to - (from + 2 ^ d) ≤ s → (from + 2 ^ d) % 2 ^ k ≡ 0 → to < from + 2 ^ d + 2 ^ n → k ≤ n
+    → length (cover_of (from + 2 ^ d) to) + k ≤ 2 * n)
     → length (cover_of from to) + j ≤ 2 * m
 length_step s d from to m j enough begins below within largest rest =
     let fewer : to - (from + 2 ^ d) ≤ s = omega (arith, pow_pos d, enough, largest.ends) in
@@ -251,7 +262,10 @@ length_step s d from to m j enough begins below within largest rest =
           let after = rest d d fewer (begins_after from d d (omega arith) largest.begins) (omega (arith, last, pow-succ' 2 d)) (omega arith) in
           rw (cover-some d from to largest) (omega (arith, after, small, within))
       | inr odd ↦
-          let lower : j ≤ d = elim (cases_lt d j) [ inr less ↦ less | inl more ↦ absurd (odd (begins_lower from (suc d) j (omega (arith, more)) begins)) ] in
+          let lower : j ≤ d = elim (cases_lt d j) [
+            | inr less ↦ less
+            | inl more ↦ absurd (odd (begins_lower from (suc d) j (omega (arith, more)) begins))
+          ] in
           let after = rest m (suc d) fewer (even_after from d largest.begins odd) (omega (arith, below)) (omega (arith, small)) in
           rw (cover-some d from to largest) (omega (arith, after, lower))
     ]
@@ -271,14 +285,20 @@ length_in : (s from to m j : ℕ) → to - from ≤ s → from % 2 ^ j ≡ 0 →
 length_in zero from to m j enough begins below within = rw (cover-none from to (omega arith)) (omega (arith, within))
 length_in (suc s) from to m j enough begins below within = elim (cases_lt from to) [
   | inr none ↦ rw (cover-none from to none) (omega (arith, within))
-  | inl some ↦ length_step s (depth_at from to) from to m j enough begins below within (largest-is from to some) (length_in s (from + 2 ^ depth_at from to) to)
+  | inl some ↦
+      length_step s (depth_at from to) from to m j enough begins below within (largest-is from to some)
+      (length_in s (from + 2 ^ depth_at from to) to)
 ]
 
 pub length-cover : (k from to : ℕ) → 0 < k → from ≤ to → to ≤ 2 ^ k → length (cover_of from to) ≤ 2 * k
 length-cover k from to some ordered within = elim (cases_lt to (from + 2 ^ k)) [
   | inl less ↦ omega (arith, length_in (to - from) from to k 0 (omega arith) (omega arith) less (omega arith))
   | inr whole ↦
-      let largest : IsLargest k from to = record { begins = ap (λ (n : ℕ). n % 2 ^ k) (omega (arith, whole, within)) ∙ zero-mod (2 ^ k); ends = whole; next = λ _. omega (arith, pow-succ' 2 k, within, pow_pos k) } in
+      let largest : IsLargest k from to = record {
+        begins = ap (λ (n : ℕ). n % 2 ^ k) (omega (arith, whole, within)) ∙ zero-mod (2 ^ k);
+        ends = whole;
+        next = λ _. omega (arith, pow-succ' 2 k, within, pow_pos k);
+      } in
       rw (cover-some k from to largest, cover-none (from + 2 ^ k) to (omega (arith, within))) (omega (arith, some))
 ]
 
@@ -291,7 +311,9 @@ fall_in (suc s) from to b enough begins below = elim (cases_lt from to) [
 ]
 
 pub cover-full : (n : ℕ) → cover_of 0 n ≡ full_roots_of n
-cover-full n = only-full n (cover_of 0 n) (tile-cover 0 n (omega arith)) (fall_any n _ (fall_in n 0 n n (omega arith) (zero-mod (2 ^ n)) (omega (arith, below_pow n))))
+cover-full n =
+    let falls = fall_in n 0 n n (omega arith) (zero-mod (2 ^ n)) (omega (arith, below_pow n)) in
+    only-full n (cover_of 0 n) (tile-cover 0 n (omega arith)) (fall_any n _ falls)
 
 -- the code's depth: no more than the last place's trailing zeros, nor than the room has digits
 low_zeros : (t n : ℕ) → ((i : ℕ) → i < t → bit_at n i ≡ 0) → n % 2 ^ t ≡ 0
@@ -306,14 +328,16 @@ trailing_begins n d small within = elim (cases_lt 0 n) [
   | inr none ↦ let is : n ≡ 0 = omega arith in ap (λ (k : ℕ). k % 2 ^ d) is ∙ zero-mod (2 ^ d)
 ]
 
-pub largest-room : (d from to : ℕ) → from < 2 ^ 64 → from < to → d ≤ trailing_zeros w64 from → 2 ^ d ≤ to - from → to - from < 2 * 2 ^ d → IsLargest d from to
+pub largest-room : (d from to : ℕ) → from < 2 ^ 64 → from < to → d ≤ trailing_zeros w64 from → 2 ^ d ≤ to - from
+    → to - from < 2 * 2 ^ d → IsLargest d from to
 largest-room d from to small some within low high = record {
   begins = trailing_begins from d small within;
   ends = omega (arith, low, some);
   next = λ _. omega (arith, high, pow-succ' 2 d);
 }
 
-pub largest-aligned : (d r from to : ℕ) → from < 2 ^ 64 → from < to → d ≡ trailing_zeros w64 from → d < r → r < 64 → 2 ^ r ≤ to - from → IsLargest d from to
+pub largest-aligned : (d r from to : ℕ) → from < 2 ^ 64 → from < to → d ≡ trailing_zeros w64 from → d < r → r < 64
+    → 2 ^ r ≤ to - from → IsLargest d from to
 largest-aligned d r from to small some is less wide low =
     let positive : 0 < from = elim (cases_lt 0 from) [
       | inl more ↦ more
@@ -353,7 +377,8 @@ pub cover-room : (from at to : ℕ) (places : List ℕ) → at < to → places +
     → length places < length (cover_of from to)
 cover-room from at to places some joined =
     let more : 0 < length (cover_of at to) = rw (cover-some _ at to (largest-is at to some)) (omega arith) in
-    let whole : length places + length (numbers_of (cover_of at to)) ≡ length (numbers_of (cover_of from to)) = sym (length-append places (numbers_of (cover_of at to))) ∙ ap length joined in
+    let whole : length places + length (numbers_of (cover_of at to)) ≡ length (numbers_of (cover_of from to)) =
+    sym (length-append places (numbers_of (cover_of at to))) ∙ ap length joined in
     omega (arith, more, simp length-map at whole)
 
 pub cover-done : (at to : ℕ) (places all : List ℕ) → to ≤ at → places ++ numbers_of (cover_of at to) ≡ all → places ≡ all

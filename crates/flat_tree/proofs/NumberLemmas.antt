@@ -1,10 +1,10 @@
 -- The numbers of subtrees by depth and offset.
-use Rattle.std.proofs.Common.{◌≡◌, ℕ, zero, suc, ◌+◌, ◌-◌, ◌*◌, ◌/◌, ◌%◌, ◌^◌, ◌<◌, ◌≤◌, inl, inr, refl, sym, ◌∙◌, ap, subst, arith, add-one, lit<}
+use Rattle.std.proofs.Common.{◌≡◌, ℕ, zero, suc, ◌+◌, ◌-◌, ◌*◌, ◌/◌, ◌%◌, ◌^◌, ◌<◌, ◌≤◌, inl, inr, refl, sym, ◌∙◌, ap, subst, arith, add-one}
 use Rattle.std.specs.Int.{bit_at, trailing_ones, w64}
 use Rattle.std.proofs.lemmas.Bool.{cases_lt, cases_eq, cases_order}
 use Rattle.std.proofs.Math.Nat.{pow-succ'}
 use Rattle.std.proofs.Math.Pow.{pow_mono, pow-lt}
-use Rattle.std.proofs.lemmas.Nat.{pow_pos, shr_high, shr_split, mod_below, one_shl, shl_whole, pow-add, mul-le}
+use Rattle.std.proofs.lemmas.Nat.{pow_pos, shr_high, shr_split, mod_below, one_shl, pow-add, mul-le}
 use Rattle.flat_tree.specs.declared.limits.TheConstants.{MAX_DEPTH, MAX_NODE}
 use Rattle.std.proofs.lemmas.Nat.Bits.{bit_at_cat_low, bit_at_ones, bit_at_ones_above, bit_at-trailing_ones}
 use Rattle.flat_tree.specs.Subtrees.{number, first_block_of, end_block_of}

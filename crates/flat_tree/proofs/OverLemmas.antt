@@ -109,7 +109,8 @@ found_first n i d over =
         0,
         (
           omega arith,
-          subst (λ (trees : List Subtree). IsAmong trees i d 0) (sym (roots-one d n over.one)) (among_here d (n / 2 ^ d - 1) (roots_below d n) i inside place),
+          subst (λ (trees : List Subtree). IsAmong trees i d 0) (sym (roots-one d n over.one))
+              (among_here d (n / 2 ^ d - 1) (roots_below d n) i inside place),
         ),
       ),
     )
@@ -117,7 +118,8 @@ found_first n i d over =
 found_up : (n i d k : ℕ) → d < k → IsFound n i d k → IsFound n i d (suc k)
 found_up n i d k above (equal, (place, (count, among))) =
     let halves : n / 2 ^ suc k ≡ i / 2 ^ suc k = omega (arith, half n k, half i k, equal) in
-    let fewer : ones (n / 2 ^ k) ≡ n / 2 ^ k % 2 + ones (n / 2 ^ suc k) = ones-half (n / 2 ^ k) ∙ ap (λ (q : ℕ). n / 2 ^ k % 2 + ones q) (sym (half n k)) in
+    let fewer : ones (n / 2 ^ k) ≡ n / 2 ^ k % 2 + ones (n / 2 ^ suc k) =
+    ones-half (n / 2 ^ k) ∙ ap (λ (q : ℕ). n / 2 ^ k % 2 + ones q) (sym (half n k)) in
     elim (digit k n) [
       | inl one ↦
           let ends : end_block_of k (n / 2 ^ k - 1) ≤ i = omega (arith, root_end k n one, ap (λ (q : ℕ). q * 2 ^ k) equal, shr_split i k) in (
@@ -126,7 +128,8 @@ found_up n i d k above (equal, (place, (count, among))) =
               place + 1,
               (
                 omega (arith, count, fewer, one),
-                subst (λ (trees : List Subtree). IsAmong trees i d (place + 1)) (sym (roots-one k n one)) (among_further (subtree k (n / 2 ^ k - 1)) (roots_below k n) i d place ends among),
+                subst (λ (trees : List Subtree). IsAmong trees i d (place + 1)) (sym (roots-one k n one))
+                    (among_further (subtree k (n / 2 ^ k - 1)) (roots_below k n) i d place ends among),
               ),
             ),
           )

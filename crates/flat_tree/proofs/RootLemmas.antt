@@ -116,7 +116,9 @@ only-roots (suc d) n (tree ∷ trees) tile falls = elim (digit d n) [
   | inr none ↦ elim (cases_eq tree.depth d) [
     | inl same ↦
         let size : 2 ^ tree.depth ≡ 2 ^ d = ap (λ (k : ℕ). 2 ^ k) same in
-        absurd (omega (arith, size, tile.0, end_first tree.depth tree.offset, tile-le trees _ n tile.1, start-zero d n none, shr_split n d, mod_below n (2 ^ d) (pow_pos d)))
+        let rest = mod_below n (2 ^ d) (pow_pos d) in
+        let end = tile-le trees _ n tile.1 in
+        absurd (omega (arith, size, tile.0, end_first tree.depth tree.offset, end, start-zero d n none, shr_split n d, rest))
     | inr lower ↦
         let deep : tree.depth < d = omega (arith, falls.0, lower) in
         let begins = tile.0 ∙ sym (start-zero d n none) in

@@ -10,7 +10,11 @@ pub push-requires : goal.push-requires
 push-requires c =
     let some : c.loop-at.at < c.args.to = omega arith in
     let room : length c.loop-at.places < MAX_PLACES =
-    omega (arith, cover-room c.args.from c.loop-at.at c.args.to c.loop-at.places some c.loop-at.invariant.joined, length-cover MAX_DEPTH c.args.from c.args.to (lit< tt) c.requires.ordered c.requires.within) in
+    omega (
+      arith,
+      cover-room c.args.from c.loop-at.at c.args.to c.loop-at.places some c.loop-at.invariant.joined,
+      length-cover MAX_DEPTH c.args.from c.args.to (lit< tt) c.requires.ordered c.requires.within,
+    ) in
     (lit< tt, room)
 
 pub loop-at-preserved : goal.loop-at-preserved
@@ -18,7 +22,8 @@ loop-at-preserved c =
     let size = one_shl c.largest_at.result 64 c.largest_at.ensures.fits in
     record {
       within = omega (arith, size, c.largest_at.ensures.within);
-      joined = cover-push c.largest_at.result c.loop-at.at c.args.to _ c.loop-at.places _ _ c.loop-at-test.true c.largest_at.ensures.largest size c.push.ensures c.loop-at.invariant.joined;
+      joined = cover-push c.largest_at.result c.loop-at.at c.args.to _ c.loop-at.places _ _ c.loop-at-test.true
+          c.largest_at.ensures.largest size c.push.ensures c.loop-at.invariant.joined;
     }
 
 pub returns-clause-numbers : goal.returns-clause-numbers

@@ -18,4 +18,5 @@ returns-then-aligned-room-clause-within c = (aligned c).ends
 pub returns-else-aligned-room-clause-largest : goal.returns-else-aligned-room-clause-largest
 returns-else-aligned-room-clause-largest c =
     largest-code _ _ _ c.requires.some
-    (largest-room c.ilog2-room.result c.args.from c.args.to (omega arith) c.requires.some c.if-aligned-room.false c.ilog2-room.ensures.power_le c.ilog2-room.ensures.next_power_gt)
+    (largest-room c.ilog2-room.result c.args.from c.args.to (omega arith) c.requires.some c.if-aligned-room.false
+    c.ilog2-room.ensures.power_le c.ilog2-room.ensures.next_power_gt)

@@ -12,14 +12,19 @@ pub push-requires : goal.push-requires
 push-requires c =
     let some : 0 < c.loop-left.left = omega arith in
     let room : length c.loop-left.places < MAX_PLACES =
-    omega (arith, roots_left-room c.args.blocks c.loop-left.left c.loop-left.places c.loop-left.invariant.1 some, length-full MAX_DEPTH c.args.blocks (lit< tt) c.requires.within) in
+    omega (
+      arith,
+      roots_left-room c.args.blocks c.loop-left.left c.loop-left.places c.loop-left.invariant.1 some,
+      length-full MAX_DEPTH c.args.blocks (lit< tt) c.requires.within,
+    ) in
     (lit< tt, room)
 
 pub loop-left-preserved : goal.loop-left-preserved
 loop-left-preserved c =
     let size = one_shl c.ilog2.result 64 c.ilog2.ensures.bound in (
       omega (arith, c.loop-left.invariant.0),
-      roots_left-push c.args.blocks c.loop-left.left c.ilog2.result _ c.loop-left.places _ c.loop-left.invariant.1 c.ilog2.ensures.power_le c.ilog2.ensures.next_power_gt size c.push.ensures,
+      roots_left-push c.args.blocks c.loop-left.left c.ilog2.result _ c.loop-left.places _ c.loop-left.invariant.1
+          c.ilog2.ensures.power_le c.ilog2.ensures.next_power_gt size c.push.ensures,
     )
 
 pub returns-clause-numbers : goal.returns-clause-numbers
@@ -39,7 +44,12 @@ returns-clause-few c few = length-full MAX_ROOTS c.args.blocks (lit< tt) few
 
 pub returns-clause-room : goal.returns-clause-room
 returns-clause-room c few =
-    omega (arith, length-numbers c.loop-left.places (full_roots_of c.args.blocks) (returns-clause-numbers c), length-full MAX_ROOTS c.args.blocks (lit< tt) few)
+    omega (
+      arith,
+      length-numbers c.loop-left.places (full_roots_of c.args.blocks) (returns-clause-numbers c),
+      length-full MAX_ROOTS c.args.blocks (lit< tt) few,
+    )
 
 pub returns-clause-below : goal.returns-clause-below
-returns-clause-below c = numbers_below c.loop-left.places (full_roots_of c.args.blocks) 0 c.args.blocks (returns-clause-numbers c) (tile-full c.args.blocks)
+returns-clause-below c =
+    numbers_below c.loop-left.places (full_roots_of c.args.blocks) 0 c.args.blocks (returns-clause-numbers c) (tile-full c.args.blocks)

@@ -26,8 +26,10 @@ const TWIG_BYTES: usize = NUMBER_BYTES + HASH_BYTES;
 /// shorter one has no more roots than digits, and fewer siblings.
 const MAX_TWIGS: usize = MAX_ROOTS + MAX_SIBLINGS - 1;
 /// The most bytes that a bundle has.
-pub const MAX_BUNDLE_BYTES: usize =
-    START_BYTES + MAX_TWIGS * TWIG_BYTES + NUMBER_BYTES + MAX_BLOCK_BYTES as usize;
+pub const MAX_BUNDLE_BYTES: usize = START_BYTES
+    + MAX_TWIGS * TWIG_BYTES
+    + NUMBER_BYTES
+    + MAX_BLOCK_BYTES as usize;
 
 /// A field isn't whole or is outside its range, and so many bytes are left from its first on.
 #[derive(Clone, Copy, Debug)]

@@ -1,4 +1,5 @@
 mod Again
+mod BundleSize
 mod Bundles
 pub mod Descent
 mod Fields

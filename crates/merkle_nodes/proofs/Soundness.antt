@@ -1,5 +1,6 @@
 -- Whoever made an answer, its block is that of each log under its roots, or two different inputs of equal hash are in hand.
 use Rattle.std.proofs.Common.{◌≡◌, ℕ, zero, suc, ◌+◌, ◌-◌, ◌*◌, ◌/◌, ◌^◌, ◌<◌, ◌≤◌, ◌⊎◌, inl, inr, List, [], ◌∷◌, ◌++◌, length, get_or, take, drop, option_map, map, slice_get, Some, refl, sym, ap, subst, ◌∙◌, arith, length-append}
+use Rattle.std.specs.Prelude.{Bool, Result, Ok, Err, IfOk}
 use Rattle.std.specs.List.{flat_map, AllByRecursion}
 use Rattle.std.proofs.lemmas.List.{length-take-le}
 use Rattle.std.proofs.lemmas.List.Concat.{flat_map-cons}
@@ -14,7 +15,12 @@ use Rattle.blake2b_hash.proofs.Hashes.{length_hash_of}
 use Rattle.merkle_nodes.specs.Tree.{u64_bytes, leaf_input, leaf_of, tree_of}
 use Rattle.merkle_nodes.specs.Roots.{twig_of, node_of, roots_of, root_part, root_input}
 use Rattle.merkle_nodes.specs.Fold.{fold, offset_above, Proves}
-use Rattle.merkle_nodes.specs.Sound.{inputs_of, fold_inputs, path_inputs, Clash, IsLogUnder, HasHash, HasRootHash, IsSound}
+use Rattle.merkle_nodes.specs.Bundle.{NodeFits, TwigFits}
+use Rattle.merkle_nodes.specs.declared.check.Opened.{Opened}
+use Rattle.merkle_nodes.specs.declared.check.BundleFault.{BundleFault}
+use Rattle.merkle_nodes.specs.Check.{Checks, OpensSigned, block_at}
+use Rattle.merkle_nodes.specs.Roots.{Accepts}
+use Rattle.merkle_nodes.specs.Sound.{IsBlockUnder, inputs_of, fold_inputs, path_inputs, Clash, IsLogUnder, HasHash, HasRootHash, IsSound}
 use Rattle.merkle_nodes.proofs.Inputs.{Contains-first, Contains-later, leaf_in, roots_in, same_or_clash, clash_later, split_same}
 use Rattle.merkle_nodes.proofs.Descent.{tree_has_hash, tree_of-take, depth_above, depth_above-length, offset_above-length, descend}
 
@@ -105,3 +111,22 @@ sound roots blocks index block trail wide_roots wide proved log is =
       | inr clash ↦ inr clash
       | inl same ↦ from_roots log roots blocks index block trail wide_roots wide proved is.long (length-take-le blocks log is.long) same
     ]
+
+-- ---- a bundle that was opened
+
+roots_fit : (roots : List Node) → AllByRecursion NodeFits roots → AllByRecursion HasRootHash roots
+roots_fit [] fits = tt
+roots_fit (root ∷ roots) fits = (fits.0.hash, roots_fit roots fits.1)
+
+trail_fits : (trail : List Twig) → AllByRecursion TwigFits trail → AllByRecursion HasHash trail
+trail_fits [] fits = tt
+trail_fits (twig ∷ trail) fits = (fits.0.hash, trail_fits trail fits.1)
+
+pub opens_signed : (accepts : List ℕ → List ℕ → Bool) (bytes : List ℕ) (result : Result Opened BundleFault) → Checks accepts bytes result
+    → IfOk result (λ opened. OpensSigned accepts bytes opened)
+opens_signed accepts bytes (Err fault) checks = tt
+opens_signed accepts bytes (Ok opened) (b, spells, proved, accepted, opens) =
+    let head : Accepts accepts opened.fork opened.length b.roots b.start.signature = rw (opens.fork, opens.blocks) accepted in
+    let block : IsBlockUnder b.roots opened.length opened.index (block_at bytes opened) b.trail = rw (opens.blocks, opens.index, opens.block)
+    (sound b.roots b.start.length b.start.index b.block b.trail (roots_fit b.roots spells.0.roots) (trail_fits b.trail spells.0.trail) proved) in
+    record { bundle = b; spells = spells; accepted = head; sound = block }

@@ -1,5 +1,5 @@
 -- The most bytes that a bundle has.
-use Rattle.std.proofs.Common.{◌≡◌, ℕ, zero, suc, ◌+◌, ◌-◌, ◌*◌, ◌/◌, ◌^◌, ◌<◌, ◌≤◌, inl, inr, List, [], ◌∷◌, ◌++◌, length, map, refl, sym, ap, subst, ◌∙◌, arith, length-append}
+use Rattle.std.proofs.Common.{◌≡◌, ℕ, ◌+◌, ◌-◌, ◌*◌, ◌/◌, ◌^◌, ◌<◌, ◌≤◌, inl, inr, List, [], ◌∷◌, ◌++◌, length, map, refl, sym, ap, subst, ◌∙◌, arith, length-append}
 use Rattle.std.specs.List.{flat_map, AllByRecursion}
 use Rattle.std.proofs.Math.Pow.{pow_mono}
 use Rattle.std.proofs.lemmas.Bool.{cases_lt, cases_eq}
@@ -7,7 +7,7 @@ use Rattle.std.proofs.lemmas.List.{length-map}
 use Rattle.std.proofs.lemmas.List.Concat.{flat_map-cons}
 use Rattle.flat_tree.specs.Subtrees.{Subtree, subtree, number, numbers_of, first_block_of, end_block_of}
 use Rattle.flat_tree.specs.Roots.{full_roots_of, place_over, depth_over}
-use Rattle.flat_tree.specs.declared.limits.TheConstants.{MAX_SIBLINGS, MAX_ROOTS, MAX_BLOCKS, MAX_BLOCK_BYTES}
+use Rattle.flat_tree.specs.declared.limits.TheConstants.{MAX_SIBLINGS}
 use Rattle.flat_tree.proofs.NumberLemmas.{end_first}
 use Rattle.flat_tree.proofs.RootLemmas.{tile-full, tile-get, only-full, length-full}
 use Rattle.flat_tree.proofs.OverLemmas.{root-over, depth_over-le}

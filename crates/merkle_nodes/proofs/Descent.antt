@@ -1,10 +1,10 @@
 -- Down a path from an equal top: at each step the inputs are equal, or they clash.
-use Rattle.std.proofs.Common.{◌≡◌, ℕ, zero, suc, ◌+◌, ◌-◌, ◌*◌, ◌/◌, ◌%◌, ◌^◌, ◌==◌, ◌<◌, ◌≤◌, ◌⊎◌, inl, inr, if◌then◌else◌, List, [], ◌∷◌, ◌++◌, length, get_or, take, refl, sym, ap, subst, ◌∙◌, arith, add-one}
+use Rattle.std.proofs.Common.{◌≡◌, ℕ, zero, suc, ◌+◌, ◌*◌, ◌/◌, ◌%◌, ◌^◌, ◌≤◌, ◌⊎◌, inl, inr, List, [], ◌∷◌, ◌++◌, length, take, refl, sym, ap, ◌∙◌, arith}
 use Rattle.std.specs.List.{AllByRecursion}
 use Rattle.std.proofs.lemmas.Bool.{cases_eq, eq-eqb}
 use Rattle.std.proofs.lemmas.List.{get_or-take}
 use Rattle.std.proofs.lemmas.Nat.{shr-shr}
-use Rattle.flat_tree.specs.Subtrees.{first_block_of, end_block_of}
+use Rattle.flat_tree.specs.Subtrees.{end_block_of}
 use Rattle.flat_tree.proofs.NumberLemmas.{end_first, end-suc, halves_meet, leaf}
 use Rattle.blake2b_hash.specs.Blake2b.{hash_of}
 use Rattle.blake2b_hash.proofs.Hashes.{length_hash_of}
@@ -12,7 +12,7 @@ use Rattle.merkle_nodes.specs.declared.node.Twig.{Twig}
 use Rattle.merkle_nodes.specs.Tree.{u64_bytes, leaf_of, parent_input, parent_of, tree_of}
 use Rattle.merkle_nodes.specs.Fold.{join, fold_from, offset_above}
 use Rattle.merkle_nodes.specs.Sound.{HasHash, join_input, fold_inputs, inputs_of, Clash}
-use Rattle.merkle_nodes.proofs.Inputs.{Contains-first, Contains-later, parent_in, same_or_clash, clash_later, split_same}
+use Rattle.merkle_nodes.proofs.Inputs.{Contains-first, parent_in, same_or_clash, clash_later, split_same}
 
 -- the first halves end within, where their parent does
 half_ends : (depth offset : ℕ) → end_block_of depth (2 * offset) ≤ end_block_of (suc depth) offset

@@ -1,5 +1,5 @@
 -- Whoever made an answer, its block is that of each log under its roots, or two different inputs of equal hash are in hand.
-use Rattle.std.proofs.Common.{◌≡◌, ℕ, zero, suc, ◌+◌, ◌-◌, ◌*◌, ◌/◌, ◌^◌, ◌<◌, ◌≤◌, ◌⊎◌, inl, inr, List, [], ◌∷◌, ◌++◌, length, get_or, take, drop, option_map, map, slice_get, Some, refl, sym, ap, subst, ◌∙◌, arith, length-append}
+use Rattle.std.proofs.Common.{◌≡◌, ℕ, zero, suc, ◌/◌, ◌^◌, ◌<◌, ◌≤◌, ◌⊎◌, inl, inr, List, [], ◌∷◌, ◌++◌, length, get_or, take, drop, option_map, map, slice_get, Some, refl, sym, ap, subst, ◌∙◌, arith, length-append}
 use Rattle.std.specs.Prelude.{Bool, Result, Ok, Err, IfOk}
 use Rattle.std.specs.List.{flat_map, AllByRecursion}
 use Rattle.std.proofs.lemmas.List.{length-take-le}
@@ -13,14 +13,14 @@ use Rattle.merkle_nodes.specs.declared.node.Node.{Node}
 use Rattle.merkle_nodes.specs.declared.node.Twig.{Twig}
 use Rattle.blake2b_hash.proofs.Hashes.{length_hash_of}
 use Rattle.merkle_nodes.specs.Tree.{u64_bytes, leaf_input, leaf_of, tree_of}
-use Rattle.merkle_nodes.specs.Roots.{twig_of, node_of, roots_of, root_part, root_input}
+use Rattle.merkle_nodes.specs.Roots.{node_of, roots_of, root_part, root_input}
 use Rattle.merkle_nodes.specs.Fold.{fold, offset_above, Proves}
 use Rattle.merkle_nodes.specs.Bundle.{NodeFits, TwigFits}
 use Rattle.merkle_nodes.specs.declared.check.Opened.{Opened}
 use Rattle.merkle_nodes.specs.declared.check.BundleFault.{BundleFault}
 use Rattle.merkle_nodes.specs.Check.{Checks, OpensSigned, block_at}
 use Rattle.merkle_nodes.specs.Roots.{Accepts}
-use Rattle.merkle_nodes.specs.Sound.{IsBlockUnder, inputs_of, fold_inputs, path_inputs, Clash, IsLogUnder, HasHash, HasRootHash, IsSound}
+use Rattle.merkle_nodes.specs.Sound.{IsBlockUnder, inputs_of, fold_inputs, path_inputs, Clash, HasHash, HasRootHash, IsSound}
 use Rattle.merkle_nodes.proofs.Inputs.{Contains-first, Contains-later, leaf_in, roots_in, same_or_clash, clash_later, split_same}
 use Rattle.merkle_nodes.proofs.Descent.{tree_has_hash, tree_of-take, depth_above, depth_above-length, offset_above-length, descend}
 

@@ -1,11 +1,11 @@
 -- What the check of some bytes answers.
-use Rattle.std.specs.Prelude.{◌≡◌, ◌≢◌, ℕ, ◌+◌, ◌-◌, ◌≤◌, Bool, List, length, take, drop, Result, Ok, Err, IsTrue}
+use Rattle.std.specs.Prelude.{◌≡◌, ◌≢◌, ℕ, ◌+◌, ◌-◌, ◌≤◌, Bool, List, length, take, drop, Result, Ok, Err}
 use Rattle.merkle_nodes.specs.declared.node.Node.{Node}
 use Rattle.merkle_nodes.specs.declared.check.Opened.{Opened}
 use Rattle.merkle_nodes.specs.declared.check.BundleFault.{BundleFault}
 use Rattle.merkle_nodes.specs.declared.check.BundleFault.TheVariants.{BadForm, NotProved, BadSignature}
 use Rattle.merkle_nodes.specs.Roots.{twig_of, Accepts}
-use Rattle.merkle_nodes.specs.Fold.{fold, offset_above, IsRootOver, Proves}
+use Rattle.merkle_nodes.specs.Fold.{fold, IsRootOver, Proves}
 use Rattle.merkle_nodes.specs.Sound.{IsBlockUnder}
 use Rattle.merkle_nodes.specs.Bundle.{Bundle, Spells}
 use Rattle.merkle_nodes.specs.Reading.{bundle_of}

@@ -8,6 +8,8 @@ mod fold;
 mod node;
 mod reading;
 mod roots;
+#[cfg(test)]
+mod tests;
 
 pub use check::{BundleFault, Opened, check_bundle};
 pub use fold::fold_path;

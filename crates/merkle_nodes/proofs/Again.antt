@@ -1,5 +1,5 @@
 -- What is spelled as a bundle is read as that bundle.
-use Rattle.std.proofs.Common.{◌≡◌, ℕ, zero, suc, ◌+◌, ◌-◌, ◌^◌, ◌<◌, ◌≤◌, true, List, [], ◌∷◌, ◌++◌, length, map, Result, Ok, Err, refl, sym, ap, ◌∙◌, append_assoc, append-nil, arith}
+use Rattle.std.proofs.Common.{◌≡◌, ℕ, suc, ◌-◌, ◌≤◌, List, [], ◌∷◌, ◌++◌, length, map, Ok, refl, sym, ap, ◌∙◌, append_assoc, append-nil, arith}
 use Rattle.std.specs.List.{flat_map, AllByRecursion}
 use Rattle.std.proofs.lemmas.List.Concat.{flat_map-cons}
 use Rattle.flat_tree.specs.Subtrees.{numbers_of}
@@ -10,7 +10,7 @@ use Rattle.merkle_nodes.specs.declared.node.Twig.{Twig}
 use Rattle.merkle_nodes.specs.declared.reading.Start.{Start}
 use Rattle.merkle_nodes.specs.Tree.{u64_bytes}
 use Rattle.merkle_nodes.specs.Bundle.{Bundle, magic, twig_spelling, node_spelling, start_spelling, block_spelling, spelling, TwigFits, NodeFits, StartFits, Fits}
-use Rattle.merkle_nodes.specs.Reading.{Read, ◌>>=◌, bytes_at, number_at, magic_at, start_at, twig_at, nodes_at, twigs_at, block_of, bundle_of}
+use Rattle.merkle_nodes.specs.Reading.{bytes_at, magic_at, start_at, twig_at, nodes_at, twigs_at, block_of, bundle_of}
 use Rattle.merkle_nodes.proofs.Fields.{bytes_again, number_again}
 
 magic_again : (rest : List ℕ) → magic_at (magic ++ rest) ≡ Ok (magic, rest)

@@ -1,5 +1,5 @@
 -- The two laws of the bundle: what is read is spelled so, and what is spelled so is read; and how many bytes are left.
-use Rattle.std.proofs.Common.{◌≡◌, ℕ, zero, suc, ◌+◌, ◌-◌, ◌^◌, ◌<◌, ◌≤◌, Bool, true, false, cond, eqb, List, [], ◌∷◌, ◌++◌, length, take, drop, map, Result, Ok, Err, refl, sym, ap, subst, ◌∙◌, append_assoc, append-nil, length-append, arith}
+use Rattle.std.proofs.Common.{◌≡◌, ℕ, zero, suc, ◌-◌, ◌≤◌, eqb, List, [], ◌∷◌, ◌++◌, length, map, refl, sym, ap, subst, ◌∙◌, append-nil, arith}
 use Rattle.std.specs.Prelude.{IfOk}
 use Rattle.std.specs.List.{flat_map, AllByRecursion}
 use Rattle.std.specs.Str.{bytes_eq}
@@ -11,12 +11,10 @@ use Rattle.flat_tree.specs.Subtrees.{numbers_of}
 use Rattle.flat_tree.specs.Roots.{full_roots_of, depth_over}
 use Rattle.flat_tree.specs.declared.limits.TheConstants.{MAX_BLOCKS, MAX_FORK, MAX_BLOCK_BYTES, MAX_CORE_BYTES}
 use Rattle.merkle_nodes.specs.declared.node.Node.{Node}
-use Rattle.merkle_nodes.specs.declared.node.Twig.{Twig}
-use Rattle.merkle_nodes.specs.declared.reading.Start.{Start}
 use Rattle.merkle_nodes.specs.Tree.{u64_bytes}
-use Rattle.merkle_nodes.specs.Bundle.{Bundle, magic, twig_spelling, node_spelling, start_spelling, block_spelling, spelling, TwigFits, NodeFits, StartFits, Fits, Spells}
-use Rattle.merkle_nodes.specs.Reading.{Read, ◌>>=◌, bytes_at, number_at, magic_at, start_at, twig_at, nodes_at, twigs_at, block_of, bundle_of}
-use Rattle.merkle_nodes.proofs.Fields.{IsBytes, if_read, if_test, Took, Took-then, Within, within_next, bytes_take, bytes_again, bytes_within, number_takes, number_again, number_within}
+use Rattle.merkle_nodes.specs.Bundle.{magic, twig_spelling, node_spelling, start_spelling, block_spelling, spelling, TwigFits, NodeFits, StartFits, Spells}
+use Rattle.merkle_nodes.specs.Reading.{bytes_at, number_at, magic_at, start_at, twig_at, nodes_at, twigs_at, block_of, bundle_of}
+use Rattle.merkle_nodes.proofs.Fields.{IsBytes, if_read, if_test, Took, Took-then, bytes_take, number_takes}
 
 -- ---- what is read is spelled so
 

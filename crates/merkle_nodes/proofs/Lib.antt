@@ -1,9 +1,13 @@
 mod Again
+mod BundleSize
 mod Bundles
+pub mod Descent
 mod Fields
+pub mod Inputs
 mod Laws
 mod Left
 mod Loop
 mod Paths
 mod RootInput
+pub mod Soundness
 mod StandardFacts

@@ -1,11 +1,12 @@
 -- What the check of some bytes answers.
-use Rattle.std.specs.Prelude.{◌≡◌, ◌≢◌, ℕ, ◌+◌, ◌-◌, ◌≤◌, Bool, List, length, take, drop, Result, Ok, Err, IsTrue}
+use Rattle.std.specs.Prelude.{◌≡◌, ◌≢◌, ℕ, ◌+◌, ◌-◌, ◌≤◌, Bool, List, length, take, drop, Result, Ok, Err}
 use Rattle.merkle_nodes.specs.declared.node.Node.{Node}
 use Rattle.merkle_nodes.specs.declared.check.Opened.{Opened}
 use Rattle.merkle_nodes.specs.declared.check.BundleFault.{BundleFault}
 use Rattle.merkle_nodes.specs.declared.check.BundleFault.TheVariants.{BadForm, NotProved, BadSignature}
 use Rattle.merkle_nodes.specs.Roots.{twig_of, Accepts}
-use Rattle.merkle_nodes.specs.Fold.{fold, offset_above, IsRootOver, Proves}
+use Rattle.merkle_nodes.specs.Fold.{fold, IsRootOver, Proves}
+use Rattle.merkle_nodes.specs.Sound.{IsBlockUnder}
 use Rattle.merkle_nodes.specs.Bundle.{Bundle, Spells}
 use Rattle.merkle_nodes.specs.Reading.{bundle_of}
 
@@ -48,3 +49,15 @@ Checks accepts bytes (Ok opened) = (b : Bundle) × Spells b bytes × BlockProved
 Checks accepts bytes (Err (BadForm at)) = NoBundle bytes × IsFirstFault bytes at
 Checks accepts bytes (Err (NotProved index want have)) = (b : Bundle) × Spells b bytes × Differs b index want have
 Checks accepts bytes (Err BadSignature) = (b : Bundle) × Spells b bytes × BlockProved b × (HeadAccepted accepts b → ⊥)
+
+-- the block's bytes in the bundle
+abbrev pub block_at : List ℕ → Opened → List ℕ
+block_at bytes opened = take (opened.end - opened.start) (drop opened.start bytes)
+
+-- whoever made the bundle that the bytes spell: its head is accepted, and its block is that of each log under its roots,
+-- or two different inputs of equal hash are in hand
+pub record OpensSigned (accepts : List ℕ → List ℕ → Bool) (bytes : List ℕ) (opened : Opened) : Type 0 where
+  pub bundle : Bundle
+  pub spells : Spells bundle bytes
+  pub accepted : Accepts accepts opened.fork opened.length bundle.roots bundle.start.signature
+  pub sound : IsBlockUnder bundle.roots opened.length opened.index (block_at bytes opened) bundle.trail

@@ -1,5 +1,4 @@
 -- A bundle in memory as a value.
-use Rattle.std.specs.Prelude.{ℕ, List}
 use Rattle.merkle_nodes.specs.declared.bundle.Bundle.{Bundle as BundleInMemory}
 use Rattle.merkle_nodes.specs.Bundle.{Bundle}
 

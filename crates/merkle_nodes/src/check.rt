@@ -1,15 +1,15 @@
 //! Is this the block that the signer signed?
-ghost use Rattle.std.specs.Prelude.{◌≡◌, ◌↔◌, ℕ, List, IsTrue};
-ghost use Rattle.merkle_nodes.specs.Bundle.{Fits, Spells};
+ghost use Rattle.std.specs.Prelude.{◌≡◌, ◌↔◌, ◌≤◌, ℕ, List, length, IfOk, IsTrue};
+ghost use Rattle.merkle_nodes.specs.Bundle.{Bundle as BundleSpelled, Fits, Spells};
 ghost use Rattle.merkle_nodes.specs.View.{view};
 ghost use Rattle.merkle_nodes.specs.Roots.{twig_of};
 ghost use Rattle.merkle_nodes.specs.Fold.{IsRootOver};
-ghost use Rattle.merkle_nodes.specs.Check.{Checks, HeadAccepted};
+ghost use Rattle.merkle_nodes.specs.Check.{Checks, HeadAccepted, OpensSigned};
 
 use crate::bundle::Bundle;
 use crate::fold::fold_path;
 use crate::node::Node;
-use crate::reading::read_bundle;
+use crate::reading::{MAX_BUNDLE_BYTES, read_bundle};
 use crate::roots::{root_hash, signable};
 use flat_tree::root_of_block;
 use outside_traits::Verifier;
@@ -40,8 +40,11 @@ pub enum BundleFault {
 
 /// Checks a proof bundle (docs/FORMATS.md, "Proof bundle"): that the bytes are one, that its block and siblings fold to
 /// the root over the block's index, and that the verifier accepts its head over its roots.
+#[tactic(auto, using(crate::proofs::BundleSize::bundle_bound))]
 pub fn check_bundle<V: Verifier>(bytes: &[u8], verifier: &V) -> Result<Opened, BundleFault>
-    ensures { Checks (V.accepts verifier.now) bytes.now result }
+    ensures checks { Checks (V.accepts verifier.now) bytes.now result }
+    ensures sound { IfOk result (λ opened. OpensSigned (V.accepts verifier.now) bytes.now opened) }
+    ensures bound { (bundle : BundleSpelled) → Spells bundle bytes.now → length bytes.now ≤ MAX_BUNDLE_BYTES }
 {
     match read_bundle(bytes) {
         Ok(bundle) => check_read(bytes, &bundle, verifier),

@@ -8,8 +8,11 @@ mod fold;
 mod node;
 mod reading;
 mod roots;
+#[cfg(test)]
+mod tests;
 
 pub use check::{BundleFault, Opened, check_bundle};
 pub use fold::fold_path;
 pub use node::{Node, Roots, Trail, Twig, leaf, parent};
+pub use reading::MAX_BUNDLE_BYTES;
 pub use roots::{Head, root_hash, signable};

@@ -6,7 +6,7 @@ ghost use Rattle.merkle_nodes.specs.Reading.{Gives, bytes_at, number_at, magic_a
 ghost use Rattle.merkle_nodes.specs.View.{view};
 
 use crate::bundle::Bundle;
-use crate::node::{Node, Roots, Trail, Twig};
+use crate::node::{HASH_BYTES, Node, Roots, Trail, Twig};
 use flat_tree::{
     MAX_BLOCK_BYTES, MAX_BLOCKS, MAX_CORE_BYTES, MAX_FORK, MAX_ROOTS, MAX_SIBLINGS, full_roots,
     root_of_block,
@@ -14,6 +14,22 @@ use flat_tree::{
 
 /// The bytes that each bundle begins with.
 const MAGIC: &[u8; 8] = b"HCPROOF1";
+/// The bytes of a number.
+const NUMBER_BYTES: usize = 8;
+/// The bytes of a signature.
+const SIGNATURE_BYTES: usize = 64;
+/// The bytes of a bundle up to its roots: the magic bytes, three numbers and a signature.
+const START_BYTES: usize = 8 + 3 * NUMBER_BYTES + SIGNATURE_BYTES;
+/// The bytes of a root or a twig: a size and a hash.
+const TWIG_BYTES: usize = NUMBER_BYTES + HASH_BYTES;
+/// The most roots and twigs that a bundle has: a log of the most blocks has one root and the most siblings, and any
+/// shorter one has no more roots than digits, and fewer siblings.
+const MAX_TWIGS: usize = MAX_ROOTS + MAX_SIBLINGS - 1;
+/// The most bytes that a bundle has.
+pub const MAX_BUNDLE_BYTES: usize = START_BYTES
+    + MAX_TWIGS * TWIG_BYTES
+    + NUMBER_BYTES
+    + MAX_BLOCK_BYTES as usize;
 
 /// A field isn't whole or is outside its range, and so many bytes are left from its first on.
 #[derive(Clone, Copy, Debug)]

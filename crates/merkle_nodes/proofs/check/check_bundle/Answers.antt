@@ -1,6 +1,7 @@
 use Rattle.std.proofs.Common.{arith}
 use Rattle.merkle_nodes.specs.View.{view}
 use Rattle.merkle_nodes.proofs.Bundles.{read_spells, left_within, no_bundle}
+use Rattle.merkle_nodes.proofs.Soundness.{opens_signed}
 use Rattle.merkle_nodes.proofs.check.check_bundle.Goals as goal
 
 pub check_read-requires : goal.check_read-requires
@@ -9,7 +10,10 @@ check_read-requires g c = read_spells c.args.bytes.now (view c.in-Ok.bundle) (λ
 pub overflow_sub-result : goal.overflow_sub-result
 overflow_sub-result g c = left_within c.args.bytes.now c.in-Err.bad.left c.in-Err.ensures
 
-pub returns-in-Err : goal.returns-in-Err
-returns-in-Err g c =
+pub returns-in-Err-clause-checks : goal.returns-in-Err-clause-checks
+returns-in-Err-clause-checks g c =
     let within = left_within c.args.bytes.now c.in-Err.bad.left c.in-Err.ensures in
     (no_bundle c.args.bytes.now c.in-Err.bad.left c.in-Err.ensures, (c.in-Err.bad.left, c.in-Err.ensures, omega (arith, within)))
+
+pub returns-in-Ok-clause-sound : goal.returns-in-Ok-clause-sound
+returns-in-Ok-clause-sound g c = opens_signed _ c.args.bytes.now _ c.check_read.ensures

@@ -1,11 +1,12 @@
 #!/usr/bin/env bash
 # Times the hash of crates/blake2b_hash against b2sum and, where it is installed, libb2, over the
-# same bytes in one run: the least user time of five rounds, in which all of them take turns.
+# same bytes in one run: the least user time of five rounds, in which all of them take turns. On a
+# machine that is not quiet set BENCH_ROUNDS to more.
 # First build the program: (cd crates/hash_bench && rt run)
 set -eu
 cd "$(dirname "$0")/.."
 ours=$PWD/crates/hash_bench/out/hash_bench
-rounds=5
+rounds=${BENCH_ROUNDS:-5}
 mebibytes=256
 messages=1000000
 [ -x "$ours" ] || { echo "no $ours: run 'rt run' in crates/hash_bench" >&2; exit 2; }

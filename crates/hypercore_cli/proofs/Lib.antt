@@ -1,0 +1,3 @@
+mod BundleReads
+mod CommandLines
+mod Digits

@@ -30,3 +30,10 @@ pub record IsPass (name at : TableId) (seat : Seat ℕ Known) (count parts amoun
   pub commits : parts ≡ 1
   pub made : amount ≡ length seat.me.0.made
   pub marks : marks_parts ≡ 1
+
+-- a table's first seat knows the empty history, and its ledgers have as many parts as it is to have passes
+pub record IsLaid (at : TableId) (seat : Seat ℕ Known) (parts marks_parts passes : ℕ) : Type 0 where
+  pub seated : IsSeated at true seat
+  pub empty : seat.me.0.seen ≡ []
+  pub commits : parts ≡ passes
+  pub marks : marks_parts ≡ passes

@@ -1,7 +1,8 @@
 -- What clauses see of a book, a pass and a laid table.
-use Rattle.std.specs.Prelude.{ℕ, List, []}
+use Rattle.std.specs.Prelude.{ℕ, ◌<◌, ◌≤◌, List, [], length, sum_by}
 use Rattle.atomic_table.specs.Seated.{TableId}
 use Rattle.commit_book.specs.declared.commit.Entry.{Entry}
+use Rattle.commit_book.specs.Prefix.{IsPrefix}
 
 -- which book it is
 abbrev pub BookName : Type 0
@@ -40,3 +41,18 @@ new_pass = record { seen = []; made = []; marks = 0; news = 0 }
 abbrev pub no_book : BookName
 no_book = record { words = 0; slots = 0; views_name = 0; atom = 0; block = 0; offset = 0; slot_names = [] }
 
+-- how many entries these passes made
+abbrev pub made_of : List PassState → ℕ
+made_of passes = sum_by (λ p. length p.made) passes
+
+-- how often these passes were marked
+abbrev pub marks_of : List PassState → ℕ
+marks_of passes = sum_by (λ p. p.marks) passes
+
+-- what the pass has seen begins this history, which is as long as it was told
+abbrev pub HasSeen : List Entry → PassState → Type 0
+HasSeen history pass = IsPrefix pass.seen history × (pass.news ≤ length history)
+
+-- the pass was marked
+abbrev pub IsMarked : PassState → Type 0
+IsMarked pass = 0 < pass.marks

@@ -12,6 +12,15 @@ use std::sync::Arc;
 use std::sync::ledger;
 use std::sync::ledger::{Ledger, Share};
 
+/// A share of each ledger without a part.
+#[derive(Drop)]
+pub(crate) struct Spare<N: Named, F: Ledger> {
+    pub commits: Share<N>,
+    pub marks: Share<F>,
+    ghost no_commits: { (commits.parts ≡ 0) × (commits.amount ≡ 0) },
+    ghost no_marks: { (marks.parts ≡ 0) × (marks.amount ≡ 0) },
+}
+
 /// All commits of one core, each with the root hash after it, and how many marks were made. To a contract it is the
 /// list; at run time it is its length.
 #[derive(Drop)]
@@ -20,6 +29,7 @@ pub struct Book<N: Named, F: Ledger> {
     pub(crate) seat: Place,
     pub(crate) commits: ledger::Book<N>,
     pub(crate) marks: ledger::Book<F>,
+    pub(crate) spare: Spare<N, F>,
     pub(crate) count: u64,
     pub(crate) passes: u32,
 }

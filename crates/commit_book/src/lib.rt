@@ -4,14 +4,18 @@
 #![tactic(auto)]
 
 mod book;
+mod close;
 mod commit;
 mod law;
+mod laid;
 mod pass;
 mod steps;
 
 pub use book::Book;
 
+pub use close::BookClose;
 pub use commit::{Commit, Entry};
 pub use law::Named;
+pub use laid::{Laid, MAX_PASSES, Memory, lay, start};
 
 pub use pass::{Pass, PassList};

@@ -1,0 +1,52 @@
+-- What the toy of one thread does, and what a call of the shared toy says.
+use Rattle.std.specs.Prelude.{◌≡◌, ℕ, Bool, not, ◌+◌, ◌-◌, ◌^◌, ◌≤◌, ◌==◌, ◌&&◌, nat_le, cond, List, [], ◌∷◌, ◌++◌, length, All}
+use Rattle.commit_book.specs.declared.commit.Commit.TheVariants.{Append as AppendCommit}
+use Rattle.commit_book.specs.declared.commit.Entry.{Entry}
+use Rattle.commit_book.specs.History.{Summary, Limits, replay, IsLegal}
+use Rattle.commit_book.specs.Prefix.{IsPrefix}
+use Rattle.commit_book.specs.States.{PassState, made_of, HasSeen}
+use Rattle.book_trial.specs.declared.event.Event.{Event}
+use Rattle.book_trial.specs.declared.event.Event.TheVariants.{Append, Look}
+use Rattle.book_trial.specs.declared.event.Reply.{Reply}
+use Rattle.book_trial.specs.declared.event.Reply.TheVariants.{Length, Refused, BookFull}
+use Rattle.book_trial.specs.declared.toy.TheConstants.{MAX_LENGTH}
+
+-- what a toy keeps: lengths up to MAX_LENGTH
+abbrev pub toy_limits : Limits
+toy_limits = record { blocks = MAX_LENGTH; fork = 0 }
+
+-- the number of blocks may be added at this summary
+abbrev pub may_append : ℕ → Summary → Bool
+may_append count s = nat_le 1 count && nat_le (s.length + count) MAX_LENGTH
+
+-- the entries that the event adds to this history, one at most
+abbrev pub entries_of : Summary → Event → List Entry → List Entry
+entries_of start (Append count root) before =
+    cond (may_append count (replay start before) && not (length before == 2 ^ 64 - 1)) (record { commit = AppendCommit count; root = root } ∷ []) []
+entries_of start Look before = []
+
+-- what the toy answers after this history
+abbrev pub reply_of : Summary → Event → List Entry → Reply
+reply_of start (Append count root) before =
+    cond (may_append count (replay start before)) (cond (length before == 2 ^ 64 - 1) BookFull (Length ((replay start before).length + count))) Refused
+reply_of start Look before = Length (replay start before).length
+
+-- one call: it found a history that begins with all that the pass had seen, and that is as long as the pass was told;
+-- it added its entry, and answered as a toy of one thread would have
+pub record Turned (start : Summary) (event : Event) (old new : PassState) (reply : Reply) : Type 0 where
+  pub before : List Entry
+  pub begins : IsPrefix old.seen before
+  pub told : old.news ≤ length before
+  pub seen : new.seen ≡ before ++ entries_of start event before
+  pub made : new.made ≡ old.made ++ entries_of start event before
+  pub answer : reply ≡ reply_of start event before
+  pub legal : IsLegal toy_limits start new.seen
+
+-- the end: one legal history of so many commits leads to this length. The passes made them, and saw beginnings of it
+pub record Ended (start : Summary) (passes : List PassState) (toy_length commits : ℕ) : Type 0 where
+  pub history : List Entry
+  pub legal : IsLegal toy_limits start history
+  pub replayed : toy_length ≡ (replay start history).length
+  pub counted : commits ≡ length history
+  pub made : commits ≡ made_of passes
+  pub seen : All (HasSeen history) passes

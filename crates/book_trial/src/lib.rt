@@ -3,9 +3,11 @@
 #![tactic(auto)]
 
 mod event;
+mod shared;
 
 mod toy;
 
 pub use event::{Event, Reply};
 
+pub use shared::{SharedToy, ToyClose};
 pub use toy::{MAX_LENGTH, Toy};

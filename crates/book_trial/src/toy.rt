@@ -1,10 +1,11 @@
 //! The value under the lock: a toy core with the book of its commits.
-ghost use Rattle.std.specs.Prelude.{◌≡◌, ◌≤◌, IfOk};
-ghost use Rattle.commit_book.specs.History.{replay};
-ghost use Rattle.book_trial.specs.Turns.{Turned};
+ghost use Rattle.std.specs.Prelude.{◌≡◌, ◌<◌, [], length, IfOk, IfErr, IsErr};
+ghost use mathlib.Core.Logic.{◌↔◌};
+ghost use Rattle.book_trial.specs.Turns.{Turned, Ended};
 
 use crate::event::{Event, Reply};
-use commit_book::{Book, Commit, Named, Pass};
+use commit_book::{Book, BookClose, Commit, Named, Pass, PassList};
+
 use std::marker::Model;
 use std::sync::ledger::Ledger;
 
@@ -15,7 +16,7 @@ pub const MAX_LENGTH: u64 = 1 << 20;
 #[derive(Drop)]
 pub struct Toy<N: Named, F: Ledger> {
     length: u64,
-    pub(crate) book: Book<N, F>,
+    book: Book<N, F>,
 }
 
 impl<N: Named, F: Ledger> Model for Toy<N, F> {
@@ -29,6 +30,14 @@ impl<N: Named, F: Ledger> Model for Toy<N, F> {
     ghost view = { λ t. t.book };
 
     ghost invariant = { λ t. (t.length ≡ (replay N.start t.book.entries).length) × IsLegal toy_limits N.start t.book.entries };
+}
+
+/// A toy that wasn't closed, with the passes that were handed in, so many.
+#[derive(Drop)]
+pub struct ToyOpen<N: Named, F: Ledger> {
+    pub have: u32,
+    pub toy: Toy<N, F>,
+    pub passes: PassList<N, F>,
 }
 
 impl<N: Named, F: Ledger> Toy<N, F> {
@@ -75,6 +84,23 @@ impl<N: Named, F: Ledger> Toy<N, F> {
         self.book.meet(pass);
         Reply::Length {
             length: self.length,
+        }
+    }
+
+    /// The length and the number of commits, once all passes are handed in.
+    pub fn close(self, passes: PassList<N, F>) -> Result<(u64, u64), ToyOpen<N, F>>
+        ensures ok { IfOk result (λ r. Ended N.start passes.items r.0 r.1) }
+        ensures not_all { IfErr result (λ e. (e.have ≡ length passes.items) × (e.toy ≡ self) × (e.passes ≡ passes)) }
+        ensures refused { IsErr result ↔ (length passes.items < self.passes) }
+    {
+        let Toy { length, book } = self;
+        match book.close(passes) {
+            Ok(commits) => Ok((length, commits)),
+            Err(BookClose::NotAll { have, book, passes }) => Err(ToyOpen {
+                have,
+                toy: Toy { length, book },
+                passes,
+            }),
         }
     }
 }

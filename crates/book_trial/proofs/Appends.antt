@@ -3,9 +3,7 @@ use Rattle.std.proofs.Common.{◌≡◌, ℕ, ◌+◌, ◌-◌, ◌^◌, ◌<◌
 use Rattle.std.proofs.lemmas.Bool.Decides.{nat_tests}
 use Rattle.commit_book.specs.declared.commit.Commit.TheVariants.{Append as AppendCommit}
 use Rattle.commit_book.specs.declared.commit.Entry.{Entry}
-use Rattle.commit_book.specs.History.{Summary, replay, after, IsLegal}
-use Rattle.commit_book.specs.Prefix.{IsPrefix}
-use Rattle.commit_book.specs.States.{PassState}
+use Rattle.commit_book.specs.History.{Summary, PassState, IsPrefix, entry_of, replay, IsLegal}
 use Rattle.commit_book.proofs.HistoryLemmas.{replay-append, IsLegal-push}
 use Rattle.book_trial.specs.declared.event.Event.TheVariants.{Append}
 use Rattle.book_trial.specs.declared.event.Reply.TheVariants.{Length, Refused, BookFull}
@@ -15,7 +13,7 @@ use Rattle.book_trial.specs.Turns.{toy_limits, may_append, entries_of, reply_of,
 module _ (start : Summary) (count : ℕ) (root : List ℕ) (before : List Entry) (legal : IsLegal toy_limits start before)
     (some : 1 ≤ count) (within : (replay start before).length + count ≤ MAX_LENGTH) where
   abbrev pub entry : Entry
-  entry = record { commit = AppendCommit count; root = root }
+  entry = entry_of (AppendCommit count) root
 
   pub longer : (replay start (before ++ entry ∷ [])).length ≡ (replay start before).length + count
   longer = ap (λ (s : Summary). s.length) (replay-append start before (entry ∷ []))

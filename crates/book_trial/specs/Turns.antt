@@ -2,9 +2,7 @@
 use Rattle.std.specs.Prelude.{◌≡◌, ℕ, Bool, not, ◌+◌, ◌-◌, ◌^◌, ◌≤◌, ◌==◌, ◌&&◌, nat_le, cond, List, [], ◌∷◌, ◌++◌, length, All}
 use Rattle.commit_book.specs.declared.commit.Commit.TheVariants.{Append as AppendCommit}
 use Rattle.commit_book.specs.declared.commit.Entry.{Entry}
-use Rattle.commit_book.specs.History.{Summary, Limits, replay, IsLegal}
-use Rattle.commit_book.specs.Prefix.{IsPrefix}
-use Rattle.commit_book.specs.States.{PassState, made_of, HasSeen}
+use Rattle.commit_book.specs.History.{Summary, Limits, PassState, IsPrefix, entry_of, made_of, HasSeen, replay, IsLegal}
 use Rattle.book_trial.specs.declared.event.Event.{Event}
 use Rattle.book_trial.specs.declared.event.Event.TheVariants.{Append, Look}
 use Rattle.book_trial.specs.declared.event.Reply.{Reply}
@@ -22,7 +20,7 @@ may_append count s = nat_le 1 count && nat_le (s.length + count) MAX_LENGTH
 -- the entries that the event adds to this history, one at most
 abbrev pub entries_of : Summary → Event → List Entry → List Entry
 entries_of start (Append count root) before =
-    cond (may_append count (replay start before) && not (length before == 2 ^ 64 - 1)) (record { commit = AppendCommit count; root = root } ∷ []) []
+    cond (may_append count (replay start before) && not (length before == 2 ^ 64 - 1)) (entry_of (AppendCommit count) root ∷ []) []
 entries_of start Look before = []
 
 -- what the toy answers after this history

@@ -4,10 +4,10 @@
 
 mod event;
 mod shared;
-
+#[cfg(test)]
+mod tests;
 mod toy;
 
 pub use event::{Event, Reply};
-
 pub use shared::{SharedToy, ToyClose};
 pub use toy::{MAX_LENGTH, Toy};

@@ -5,7 +5,6 @@ ghost use Rattle.book_trial.specs.Turns.{Turned, Ended};
 
 use crate::event::{Event, Reply};
 use commit_book::{Book, BookClose, Commit, Named, Pass, PassList};
-
 use std::marker::Model;
 use std::sync::ledger::Ledger;
 
@@ -21,7 +20,7 @@ pub struct Toy<N: Named, F: Ledger> {
 
 impl<N: Named, F: Ledger> Model for Toy<N, F> {
     ghost use Rattle.std.specs.Prelude.{◌≡◌, ◌≤◌};
-    ghost use Rattle.commit_book.specs.States.{BookState};
+    ghost use Rattle.commit_book.specs.History.{BookState};
     ghost use Rattle.commit_book.specs.History.{replay, IsLegal};
     ghost use Rattle.book_trial.specs.Turns.{toy_limits};
 

@@ -14,5 +14,8 @@ some_marked (p ∷ ps) h = at p.marks refl (some_marked ps)
 
 -- there are marks exactly where a pass was marked
 pub marked : (ps : List PassState) → (0 < marks_of ps) ↔ Any IsMarked ps
-marked ps = (some_marked ps, λ a. let m : (get_or ps a.0 a.1).marks ≤ marks_of ps = get_or-le-sum_by (λ (q : PassState). q.marks) ps a.0 a.1 a.2 in
-    let n : 0 < (get_or ps a.0 a.1).marks = subst IsMarked (sym a.3) a.4 in omega arith)
+marked ps = (
+  some_marked ps,
+  λ a. let m : (get_or ps a.0 a.1).marks ≤ marks_of ps = get_or-le-sum_by (λ (q : PassState). q.marks) ps a.0 a.1 a.2 in
+      let n : 0 < (get_or ps a.0 a.1).marks = subst IsMarked (sym a.3) a.4 in omega arith,
+)

@@ -9,7 +9,7 @@ use Rattle.atomic_table.proofs.Lists.{at_set, at_snoc, set_again}
 use Rattle.commit_book.specs.declared.commit.Entry.{Entry}
 use Rattle.commit_book.specs.declared.law.Known.{Known}
 use Rattle.commit_book.specs.Prefix.{IsPrefix}
-use Rattle.commit_book.specs.Rule.{keeper, reader, nobody, hosting, told, Fits, Kept, Agrees, with_entry, Added, Compared, Noted}
+use Rattle.commit_book.specs.Rule.{keeper, reader, nobody, hosting, told, Fits, Kept, Agrees, writing, Added, Compared, Noted}
 use Rattle.commit_book.proofs.PrefixLemmas.{IsPrefix-nil, IsPrefix-refl, IsPrefix-push, length-IsPrefix}
 
 off : {P : Type 0} → false ≡ true → P
@@ -91,21 +91,21 @@ adds slots by v c e all room s h len at small =
     let known = mine.keeper all in
     let n : length h.1 + 1 < 2 ^ 64 = subst (λ (l : List Entry). length l + 1 < 2 ^ 64) known.1 room in
     let words : set s.words 0 ((slice_index s.words 0 + 1) % 2 ^ 64) ≡ length (h.1 ++ e ∷ []) ∷ [] =
-        ap (λ (ws : List ℕ). set ws 0 ((slice_index ws 0 + 1) % 2 ^ 64)) h.2 ∙ ap (λ (k : ℕ). k ∷ []) (mod-eq_of_lt n ∙ sym (length-append h.1 (e ∷ []))) in
+    ap (λ (ws : List ℕ). set ws 0 ((slice_index ws 0 + 1) % 2 ^ 64)) h.2 ∙ ap (λ (k : ℕ). k ∷ []) (mod-eq_of_lt n ∙ sym (length-append h.1 (e ∷ []))) in
     let others = λ (j : ℕ) (u : Known) (apart : j ≢ by) (there : get_elem? s.views j ≡ some u).
-        let f = h.3 j u there in let fits : Fits h.0 (h.1 ++ e ∷ []) j u = record {
-          keeper = λ k. absurd (apart ((f.keeper k).0 ∙ sym known.0));
-          seen = IsPrefix-push u.seen h.1 e f.seen;
-          guest = IsPrefix-push u.guest h.1 e f.guest;
-          noted = omega (arith, length-append h.1 (e ∷ []), f.noted);
-        } in fits in
-    let now : Fits h.0 (h.1 ++ e ∷ []) by (with_entry e v) = record {
+    let f = h.3 j u there in let fits : Fits h.0 (h.1 ++ e ∷ []) j u = record {
+      keeper = λ k. absurd (apart ((f.keeper k).0 ∙ sym known.0));
+      seen = IsPrefix-push u.seen h.1 e f.seen;
+      guest = IsPrefix-push u.guest h.1 e f.guest;
+      noted = omega (arith, length-append h.1 (e ∷ []), f.noted);
+    } in fits in
+    let now : Fits h.0 (h.1 ++ e ∷ []) by (writing e v) = record {
       keeper = λ _. (known.0, ap (λ (l : List Entry). l ++ e ∷ []) known.1);
       seen = subst (λ (l : List Entry). IsPrefix (v.seen ++ e ∷ []) (l ++ e ∷ [])) known.1 (IsPrefix-refl (v.seen ++ e ∷ []));
       guest = IsPrefix-push v.guest h.1 e mine.guest;
       noted = omega (arith, length-append h.1 (e ∷ []), mine.noted);
     } in
-    (with_entry e v, keeps, tt, (h.0, h.1 ++ e ∷ [], words, fits_set h.0 (h.1 ++ e ∷ []) s.views by (with_entry e v) others now), (refl, agrees h.0 h.1 by v all mine))
+    (writing e v, keeps, tt, (h.0, h.1 ++ e ∷ [], words, fits_set h.0 (h.1 ++ e ∷ []) s.views by (writing e v) others now), (refl, agrees h.0 h.1 by v all mine))
 
 -- the word as it is
 same_word : (ws : List ℕ) (n : ℕ) → ws ≡ n ∷ [] → set ws 0 (slice_index ws 0) ≡ n ∷ []

@@ -3,6 +3,8 @@ use Rattle.std.specs.Prelude.{◌≡◌, ℕ, ◌+◌, ◌<◌, ◌≤◌, Bool,
 use Rattle.commit_book.specs.declared.commit.Commit.{Commit}
 use Rattle.commit_book.specs.declared.commit.Commit.TheVariants.{Append, Truncate, Clear, Fetch, Upgrade, UpgradeFetch, Reorg, ReorgFetch}
 use Rattle.commit_book.specs.declared.commit.Entry.{Entry}
+pub use Rattle.commit_book.specs.Prefix.{IsPrefix}
+pub use Rattle.commit_book.specs.States.{BookName, BookState, PassState, LaidState, entry_of, new_book, with_entry, new_pass, made_of, marks_of, HasSeen, IsMarked}
 
 -- what a core stands for, in short: its fork, its length in blocks, its root hash, and which indices it holds
 pub record Summary : Type 0 where

@@ -46,12 +46,12 @@ abbrev pub Agrees : Known → Type 0
 Agrees v = IsPrefix v.guest v.seen × (v.noted ≤ length v.seen)
 
 -- the guest's entry is the last one
-abbrev pub with_entry : Entry → Known → Known
-with_entry e v = record v { seen = v.seen ++ e ∷ []; made = v.made ++ e ∷ [] }
+abbrev pub writing : Entry → Known → Known
+writing e v = record v { seen = v.seen ++ e ∷ []; made = v.made ++ e ∷ [] }
 
 -- the entry was added to a history that agreed with the guest
 abbrev pub Added : Entry → Step ℕ → Me ℕ Known → ℕ → Me ℕ Known → Type 0
-Added e step v found w = (w ≡ (with_entry e v.0, v.1)) × Agrees v.0
+Added e step v found w = (w ≡ (writing e v.0, v.1)) × Agrees v.0
 
 -- nothing changed, and the history agrees with the guest
 abbrev pub Compared : Step ℕ → Me ℕ Known → ℕ → Me ℕ Known → Type 0

@@ -1,8 +1,13 @@
 -- What clauses see of a book, a pass and a laid table.
-use Rattle.std.specs.Prelude.{ℕ, ◌<◌, ◌≤◌, List, [], length, sum_by}
+use Rattle.std.specs.Prelude.{ℕ, ◌<◌, ◌≤◌, List, [], ◌∷◌, ◌++◌, length, sum_by}
 use Rattle.atomic_table.specs.Seated.{TableId}
+use Rattle.commit_book.specs.declared.commit.Commit.{Commit}
 use Rattle.commit_book.specs.declared.commit.Entry.{Entry}
 use Rattle.commit_book.specs.Prefix.{IsPrefix}
+
+-- the entry of a commit and of the root hash after it
+abbrev pub entry_of : Commit → List ℕ → Entry
+entry_of commit root = record { commit = commit; root = root }
 
 -- which book it is
 abbrev pub BookName : Type 0
@@ -32,6 +37,10 @@ pub record LaidState : Type 0 where
 -- a book at its start
 abbrev pub new_book : ℕ → BookState
 new_book passes = record { entries = []; marks = 0; passes = passes }
+
+-- the book with one entry more
+abbrev pub with_entry : Entry → BookState → BookState
+with_entry e book = record book { entries = book.entries ++ e ∷ [] }
 
 -- a pass that has seen nothing
 abbrev pub new_pass : PassState

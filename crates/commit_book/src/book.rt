@@ -1,16 +1,15 @@
 //! The history of one core, under the lock of the core.
 ghost use Rattle.std.specs.Prelude.{◌≡◌, ◌≤◌, ◌+◌, ◌<◌, ◌-◌, ◌^◌, ◌++◌, [], ◌∷◌, length, IsTrue, IsFalse};
 ghost use mathlib.Core.Logic.{◌↔◌};
-ghost use Rattle.commit_book.specs.Prefix.{IsPrefix};
+ghost use Rattle.commit_book.specs.History.{IsPrefix, entry_of, with_entry};
 
 use crate::commit::{Commit, Entry};
 use crate::law::{Named, Place, Sheet};
 use crate::pass::Pass;
 use crate::steps::{show, write};
 use std::marker::Model;
-use std::sync::Arc;
-use std::sync::ledger;
 use std::sync::ledger::{Ledger, Share};
+use std::sync::{Arc, ledger};
 
 /// A share of each ledger without a part.
 #[derive(Drop)]
@@ -35,7 +34,7 @@ pub struct Book<N: Named, F: Ledger> {
 }
 
 impl<N: Named, F: Ledger> Model for Book<N, F> {
-    ghost use Rattle.commit_book.specs.States.{BookState};
+    ghost use Rattle.commit_book.specs.History.{BookState};
     ghost use Rattle.commit_book.specs.Seats.{IsBook};
     ghost use Rattle.std.specs.Arc.{arc_value};
 
@@ -65,13 +64,13 @@ impl<N: Named, F: Ledger> Book<N, F> {
     /// Adds the commit with the root hash after it. The pass has made it, and has seen all.
     pub fn commit(&mut self, entry: Commit, root: &[u8; 32], pass: &mut Pass<N, F>)
         requires { length self.old.entries < 2 ^ 64 - 1 }
-        ensures book { self.new ≡ record self.old { entries = self.old.entries ++ record { commit = entry; root = root.now } ∷ [] } }
+        ensures book { self.new ≡ with_entry (entry_of entry root.now) self.old }
         ensures seen { pass.new.seen ≡ self.new.entries }
-        ensures made { pass.new.made ≡ pass.old.made ++ record { commit = entry; root = root.now } ∷ [] }
+        ensures made { pass.new.made ≡ pass.old.made ++ entry_of entry root.now ∷ [] }
         ensures marks { pass.new.marks ≡ pass.old.marks }
-        ensures told { pass.new.news ≡ length self.new.entries }
+        ensures news { pass.new.news ≡ length self.new.entries }
         ensures begins { IsPrefix pass.old.seen self.old.entries }
-        ensures news { pass.old.news ≤ length self.old.entries }
+        ensures noted { pass.old.news ≤ length self.old.entries }
     {
         let entry = Entry {
             commit: entry,
@@ -79,8 +78,9 @@ impl<N: Named, F: Ledger> Book<N, F> {
         };
         write(&self.sheet, &mut self.seat, &mut pass.seat, &entry);
         self.commits.add(&mut pass.commits, 1);
-        self.count += 1;
-        pass.count = self.count;
+        let count = self.count + 1;
+        self.count = count;
+        pass.count = count;
     }
 
     /// The pass sees the whole history.
@@ -89,9 +89,9 @@ impl<N: Named, F: Ledger> Book<N, F> {
         ensures seen { pass.new.seen ≡ self.new.entries }
         ensures made { pass.new.made ≡ pass.old.made }
         ensures marks { pass.new.marks ≡ pass.old.marks }
-        ensures told { pass.new.news ≡ length self.new.entries }
+        ensures news { pass.new.news ≡ length self.new.entries }
         ensures begins { IsPrefix pass.old.seen self.old.entries }
-        ensures news { pass.old.news ≤ length self.old.entries }
+        ensures noted { pass.old.news ≤ length self.old.entries }
     {
         show(&self.sheet, &mut self.seat, &mut pass.seat);
         pass.count = self.count;

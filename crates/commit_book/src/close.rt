@@ -1,7 +1,7 @@
 //! The end of a book, where all its passes are handed in.
 ghost use Rattle.std.specs.Prelude.{◌≡◌, ◌<◌, ◌≤◌, true, length, All, Any, IfOk, IsErr};
 ghost use mathlib.Core.Logic.{◌↔◌};
-ghost use Rattle.commit_book.specs.States.{HasSeen, IsMarked, made_of, marks_of};
+ghost use Rattle.commit_book.specs.History.{HasSeen, IsMarked, made_of, marks_of};
 ghost use Rattle.commit_book.specs.Seats.{IsSeated};
 
 use crate::book::{Book, Spare};
@@ -14,7 +14,11 @@ use std::sync::ledger::{Ledger, Share};
 #[derive(Drop)]
 pub enum BookClose<N: Named, F: Ledger> {
     /// There are fewer passes than were made: so many. The book and the passes come back.
-    NotAll { have: u32, book: Book<N, F>, passes: PassList<N, F> },
+    NotAll {
+        have: u32,
+        book: Book<N, F>,
+        passes: PassList<N, F>,
+    },
 }
 
 impl<N: Named, F: Ledger> Book<N, F> {

@@ -4,21 +4,45 @@
 #[derive(Clone, Copy, Debug, PartialEq, Eq)]
 pub enum Commit {
     /// `count` blocks at the end.
-    Append { count: u64 },
+    Append {
+        count: u64,
+    },
     /// The length becomes `to`, under a greater fork.
-    Truncate { to: u64, fork: u64 },
+    Truncate {
+        to: u64,
+        fork: u64,
+    },
     /// The blocks `from..to` are given up.
-    Clear { from: u64, to: u64 },
+    Clear {
+        from: u64,
+        to: u64,
+    },
     /// One block came in.
-    Fetch { index: u64 },
+    Fetch {
+        index: u64,
+    },
     /// The length becomes `to`; no block came with it.
-    Upgrade { to: u64 },
+    Upgrade {
+        to: u64,
+    },
     /// An upgrade, then a fetch.
-    UpgradeFetch { to: u64, index: u64 },
+    UpgradeFetch {
+        to: u64,
+        index: u64,
+    },
     /// Another log under a greater fork: of the held blocks those below `kept` stay.
-    Reorg { fork: u64, to: u64, kept: u64 },
+    Reorg {
+        fork: u64,
+        to: u64,
+        kept: u64,
+    },
     /// A reorganisation, then a fetch.
-    ReorgFetch { fork: u64, to: u64, kept: u64, index: u64 },
+    ReorgFetch {
+        fork: u64,
+        to: u64,
+        kept: u64,
+        index: u64,
+    },
 }
 
 /// An entry of the history: a commit, with the root hash of the head after it.

@@ -3,7 +3,7 @@
 ghost use Rattle.std.specs.Prelude.{◌≡◌, ◌+◌, ◌≤◌, true, [], IfOk, OnOk, replicate};
 ghost use Rattle.std.specs.Arc.{arc_value};
 ghost use Rattle.commit_book.specs.Seats.{IsSeated};
-ghost use Rattle.commit_book.specs.States.{new_book, new_pass};
+ghost use Rattle.commit_book.specs.History.{new_book, new_pass};
 
 use crate::book::{Book, Spare};
 use crate::law::{Named, Place, Sheet};
@@ -33,7 +33,7 @@ pub struct Laid {
 }
 
 impl Model for Laid {
-    ghost use Rattle.commit_book.specs.States.{LaidState};
+    ghost use Rattle.commit_book.specs.History.{LaidState};
     ghost use Rattle.commit_book.specs.Seats.{IsLaid};
     ghost use Rattle.std.specs.Arc.{arc_value};
 
@@ -89,8 +89,14 @@ pub fn start<N: Named, F: Ledger>(
     } = laid;
     let (commits, mut commit_parts) = commits.open::<N>();
     let (marks, mut mark_parts) = marks.open::<F>();
-    let Ok(list) = deal_all(alloc, &sheet, &mut seat, &mut commit_parts, &mut mark_parts, passes)
-    else {
+    let Ok(list) = deal_all(
+        alloc,
+        &sheet,
+        &mut seat,
+        &mut commit_parts,
+        &mut mark_parts,
+        passes,
+    ) else {
         return Err(Memory);
     };
     let book = Book {
@@ -125,7 +131,7 @@ fn deal_all<N: Named, F: Ledger>(
     ensures commits { OnOk result ((commits.new.parts ≡ 0) × (commits.new.amount ≡ 0)) }
     ensures marks { OnOk result ((marks.new.parts ≡ 0) × (marks.new.amount ≡ 0)) }
 {
-    let mut list = Vec::new(alloc);
+    let mut list = Vec::with_capacity(alloc, passes as usize)?;
     for _i in 0..passes {
         list.push(deal(sheet, seat, commits, marks)?)?;
     }

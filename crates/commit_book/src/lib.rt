@@ -6,16 +6,16 @@
 mod book;
 mod close;
 mod commit;
-mod law;
 mod laid;
+mod law;
 mod pass;
 mod steps;
+#[cfg(test)]
+mod tests;
 
 pub use book::Book;
-
 pub use close::BookClose;
 pub use commit::{Commit, Entry};
-pub use law::Named;
 pub use laid::{Laid, MAX_PASSES, Memory, lay, start};
-
+pub use law::Named;
 pub use pass::{Pass, PassList};

@@ -18,7 +18,7 @@ pub struct Pass<N: Named, F: Ledger> {
 }
 
 impl<N: Named, F: Ledger> Model for Pass<N, F> {
-    ghost use Rattle.commit_book.specs.States.{PassState};
+    ghost use Rattle.commit_book.specs.History.{PassState};
     ghost use Rattle.commit_book.specs.Seats.{IsPass};
     ghost use Rattle.std.specs.Arc.{arc_value};
 
@@ -36,7 +36,6 @@ impl<N: Named, F: Ledger> Pass<N, F> {
     /// A length that the history has now, in entries: one step, with no lock and no memory. It never falls, and it is at
     /// least what the pass has seen.
     pub fn news(&mut self) -> u64
-        ensures news { result ≡ self.new.news }
         ensures seen { length self.old.seen ≤ result }
         ensures rises { self.old.news ≤ result }
         ensures same { self.new ≡ record self.old { news = result } }

@@ -1,7 +1,7 @@
 //! The steps of a call, over a book's table and two seats. All that a pass knows goes to the book's seat as its guest,
 //! the word is stepped or loaded there, and the guest leaves, knowing the whole history.
 ghost use Rattle.std.specs.Prelude.{◌≡◌, ◌≤◌, ◌+◌, ◌<◌, ◌^◌, ◌++◌, [], ◌∷◌, length, true, false};
-ghost use Rattle.commit_book.specs.Rule.{hosting, told, with_entry, nobody, Agrees};
+ghost use Rattle.commit_book.specs.Rule.{hosting, told, writing, nobody, Agrees};
 ghost use Rattle.commit_book.specs.Prefix.{IsPrefix};
 ghost use Rattle.commit_book.specs.Seats.{IsSeated};
 
@@ -52,7 +52,7 @@ fn add<E: Said>(sheet: &Sheet, book: &mut Place, entry: &Entry)
     requires book { IsSeated sheet.now.shared.table_id true book.old }
     requires room { length book.old.me.0.seen + 1 < 2 ^ 64 }
     ensures book { IsSeated sheet.now.shared.table_id true book.new }
-    ensures added { book.new.me.0 ≡ with_entry entry.now book.old.me.0 }
+    ensures added { book.new.me.0 ≡ writing entry.now book.old.me.0 }
     ensures agrees { Agrees book.old.me.0 }
 {
     sheet.shared.fetch_add::<Adds<E>>(book, 0, 1);

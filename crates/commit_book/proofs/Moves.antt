@@ -1,15 +1,15 @@
 -- Each step keeps the rule of the count word.
-use Rattle.std.proofs.Common.{◌≡◌, ◌≢◌, ◌⊎◌, ℕ, zero, suc, ◌+◌, ◌%◌, ◌^◌, ◌<◌, ◌≤◌, List, [], ◌∷◌, ◌++◌, length, set, Bool, true, false, true≢false, refl, sym, ap, ◌∙◌, subst, ⊎_elim, arith, length-append}
-use Rattle.std.specs.Prelude.{slice_index, slice_set}
+use Rattle.std.proofs.Common.{◌≡◌, ◌≢◌, ℕ, zero, suc, ◌+◌, ◌%◌, ◌^◌, ◌<◌, ◌≤◌, List, [], ◌∷◌, ◌++◌, length, set, true, false, true≢false, refl, sym, ap, ◌∙◌, subst, ⊎_elim, arith, length-append}
+use Rattle.std.specs.Prelude.{slice_index}
 use Rattle.std.proofs.Math.Nat.{mod-eq_of_lt}
 use mathlib.Core.Option.{none, some, some-ne-none, some-injective}
 use lib.ListN.{get_elem?}
-use Rattle.atomic_table.specs.Table.{State, Step, step, keeps, Splits, Joins, Allows, opening}
+use Rattle.atomic_table.specs.Table.{Step, step, keeps, Splits, Joins, Allows, opening}
 use Rattle.atomic_table.proofs.Lists.{at_set, at_snoc, set_again}
 use Rattle.commit_book.specs.declared.commit.Entry.{Entry}
 use Rattle.commit_book.specs.declared.law.Known.{Known}
 use Rattle.commit_book.specs.Prefix.{IsPrefix}
-use Rattle.commit_book.specs.Rule.{keeper, reader, nobody, hosting, told, Fits, Kept, Agrees, writing, Added, Compared, Noted}
+use Rattle.commit_book.specs.Rule.{keeper, nobody, hosting, told, Fits, Kept, Agrees, writing, Added, Compared, Noted}
 use Rattle.commit_book.proofs.PrefixLemmas.{IsPrefix-nil, IsPrefix-refl, IsPrefix-push, length-IsPrefix}
 
 off : {P : Type 0} → false ≡ true → P

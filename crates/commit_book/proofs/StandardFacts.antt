@@ -1,9 +1,9 @@
 -- Worked cases of what commits do, and of which lists are legal.
-use Rattle.std.proofs.Common.{◌≡◌, ℕ, Bool, true, false, List, [], ◌∷◌, map, refl, ◌<◌, ◌≤◌, true≢false, arith}
+use Rattle.std.proofs.Common.{◌≡◌, ℕ, Bool, true, false, List, [], ◌∷◌, map, refl, true≢false, arith}
 use Rattle.commit_book.specs.declared.commit.Commit.{Commit}
-use Rattle.commit_book.specs.declared.commit.Commit.TheVariants.{Append, Truncate, Clear, Fetch, Upgrade, UpgradeFetch, Reorg, ReorgFetch}
+use Rattle.commit_book.specs.declared.commit.Commit.TheVariants.{Append, Truncate, Clear, Fetch, UpgradeFetch, ReorgFetch}
 use Rattle.commit_book.specs.declared.commit.Entry.{Entry}
-use Rattle.commit_book.specs.History.{Summary, Limits, replay, changed, IsInRange, IsLegal, MayFollow}
+use Rattle.commit_book.specs.History.{Summary, Limits, replay, IsInRange, IsLegal}
 
 -- the start of a core
 abbrev empty : Summary

@@ -1,4 +1,4 @@
-use Rattle.std.proofs.Common.{◌≡◌, ℕ, ◌+◌, ◌∙◌, refl, ap, sym, arith}
+use Rattle.std.proofs.Common.{ℕ, ◌+◌, ◌∙◌, refl, ap, sym, arith}
 use Rattle.commit_book.specs.History.{BookState}
 use Rattle.book_trial.proofs.Appends.{longer, stays_legal, turned}
 use Rattle.book_trial.proofs.toy.Toy.append.Goals as goal

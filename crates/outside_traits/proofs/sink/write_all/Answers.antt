@@ -1,0 +1,10 @@
+use Rattle.std.proofs.Common.{◌≡◌, ◌≢◌, [], ◌-◌, ap, sym, ◌∙◌, length, take, drop, rules, arith}
+use Rattle.std.proofs.lemmas.List.{take_rest}
+use Rattle.outside_traits.proofs.Writing.{HasWritten-step}
+use Rattle.outside_traits.proofs.sink.write_all.Goals as goal
+
+pub loop-rest-preserved : goal.loop-rest-preserved
+loop-rest-preserved g c =
+    let rest = c.loop-rest.rest.now in
+    let some : rest ≢ [] = λ none. grind (arith, none, c.loop-rest-test.ensures) in
+    rw (take_rest rest c.in-Ok.taken) (HasWritten-step _ _ _ _ rest c.in-Ok.taken c.loop-rest.invariant c.in-Ok.ensures.writes some)

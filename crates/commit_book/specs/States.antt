@@ -58,7 +58,7 @@ made_of passes = sum_by (λ p. length p.made) passes
 abbrev pub marks_of : List PassState → ℕ
 marks_of passes = sum_by (λ p. p.marks) passes
 
--- what the pass has seen begins this history, which is as long as it was told
+-- what the pass has seen begins this history, which is no shorter than the pass was told
 abbrev pub HasSeen : List Entry → PassState → Type 0
 HasSeen history pass = IsPrefix pass.seen history × (pass.news ≤ length history)
 

@@ -10,6 +10,7 @@ use crate::law::{Named, Place, Sheet};
 use crate::pass::{Pass, PassList};
 use crate::steps::open_seat;
 use atomic_table::Table;
+use outside_traits::Memory;
 use std::alloc::{AllocError, Global};
 use std::marker::Model;
 use std::sync::Arc;
@@ -17,10 +18,6 @@ use std::sync::ledger::{Blank, Ledger, Share};
 
 /// The most passes that a book has.
 pub const MAX_PASSES: u32 = 32;
-
-/// Want of memory.
-#[derive(Clone, Copy, Debug, PartialEq, Eq)]
-pub struct Memory;
 
 /// The table of a book that is to be started.
 #[derive(Drop)]

@@ -16,6 +16,6 @@ mod tests;
 pub use book::Book;
 pub use close::BookClose;
 pub use commit::{Commit, Entry};
-pub use laid::{Laid, MAX_PASSES, Memory, lay, start};
+pub use laid::{Laid, MAX_PASSES, lay, start};
 pub use law::Named;
 pub use pass::{Pass, PassList};

@@ -1,5 +1,5 @@
 -- What the toy of one thread does, and what a call of the shared toy says.
-use Rattle.std.specs.Prelude.{◌≡◌, ℕ, Bool, not, ◌+◌, ◌-◌, ◌^◌, ◌≤◌, ◌==◌, ◌&&◌, nat_le, cond, List, [], ◌∷◌, ◌++◌, length, All}
+use Rattle.std.specs.Prelude.{◌≡◌, ℕ, Bool, not, ◌+◌, ◌-◌, ◌^◌, ◌≤◌, ◌==◌, ◌&&◌, nat_le, if◌then◌else◌, List, [], ◌∷◌, ◌++◌, length, All}
 use Rattle.commit_book.specs.declared.commit.Commit.TheVariants.{Append as AppendCommit}
 use Rattle.commit_book.specs.declared.commit.Entry.{Entry}
 use Rattle.commit_book.specs.History.{Summary, Limits, PassState, IsPrefix, entry_of, made_of, HasSeen, replay, IsLegal}
@@ -17,19 +17,25 @@ toy_limits = record { blocks = MAX_LENGTH; fork = 0 }
 abbrev pub may_append : ℕ → Summary → Bool
 may_append count s = nat_le 1 count && nat_le (s.length + count) MAX_LENGTH
 
+-- a history with no room for an entry
+abbrev pub is_full : List Entry → Bool
+is_full history = length history == 2 ^ 64 - 1
+
 -- the entries that the event adds to this history, one at most
 abbrev pub entries_of : Summary → Event → List Entry → List Entry
 entries_of start (Append count root) before =
-    cond (may_append count (replay start before) && not (length before == 2 ^ 64 - 1)) (entry_of (AppendCommit count) root ∷ []) []
+    if may_append count (replay start before) && not (is_full before) then entry_of (AppendCommit count) root ∷ [] else []
 entries_of start Look before = []
 
 -- what the toy answers after this history
 abbrev pub reply_of : Summary → Event → List Entry → Reply
 reply_of start (Append count root) before =
-    cond (may_append count (replay start before)) (cond (length before == 2 ^ 64 - 1) BookFull (Length ((replay start before).length + count))) Refused
+    if may_append count (replay start before)
+    then (if is_full before then BookFull else Length ((replay start before).length + count))
+    else Refused
 reply_of start Look before = Length (replay start before).length
 
--- one call: it found a history that begins with all that the pass had seen, and that is as long as the pass was told;
+-- one call: it found a history that begins with all that the pass had seen, and is no shorter than the pass was told;
 -- it added its entry, and answered as a toy of one thread would have
 pub record Turned (start : Summary) (event : Event) (old new : PassState) (reply : Reply) : Type 0 where
   pub before : List Entry

@@ -1,0 +1,4 @@
+pub mod StandardFacts
+pub mod Rounds
+pub mod Pieces
+pub mod Hashes

@@ -1,0 +1,5 @@
+pub mod StandardFacts
+pub mod NumberLemmas
+pub mod RootLemmas
+pub mod OverLemmas
+pub mod CoverLemmas

@@ -1,0 +1,9 @@
+mod Again
+mod Bundles
+mod Fields
+mod Laws
+mod Left
+mod Loop
+mod Paths
+mod RootInput
+mod StandardFacts

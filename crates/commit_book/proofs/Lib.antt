@@ -1,0 +1,5 @@
+pub mod PrefixLemmas
+pub mod HistoryLemmas
+pub mod StandardFacts
+pub mod Moves
+pub mod Marks

@@ -1,0 +1,5 @@
+pub mod History
+pub mod Prefix
+pub mod States
+pub mod Rule
+pub mod Seats

@@ -1,0 +1,5 @@
+pub mod Contents
+pub mod Disk
+pub mod History
+pub mod Overlays
+pub mod Stays

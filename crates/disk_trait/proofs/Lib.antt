@@ -1,2 +1,4 @@
-pub mod Histories
-pub mod Overlays
+mod Calls
+mod Histories
+mod Overlays
+mod Rows

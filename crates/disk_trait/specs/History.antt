@@ -75,3 +75,8 @@ disk_view_of disk = record {
   faults = disk.faults;
   calls = disk.made;
 }
+
+-- the areas are what the steps made of what they had at first, and each step was made before this call
+pub record IsConsistent (start files : Contents) (steps : List Step) (made : ℕ) : Type 0 where
+  pub same : files ≡ now_of start steps
+  pub before : AreBefore made steps

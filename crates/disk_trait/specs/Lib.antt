@@ -1,5 +1,6 @@
 pub mod Contents
 pub mod Disk
 pub mod History
+pub mod Journal
 pub mod Overlays
 pub mod Stays

@@ -5,6 +5,9 @@
 
 mod disk;
 mod files;
+mod journal;
 mod memory;
+mod plan;
 
 pub use disk::{Area, Disk};
+pub use memory::{MemDisk, Room};

@@ -1,9 +1,185 @@
-//! A disk in memory.
-ghost use Rattle.std.specs.Prelude.{◌≡◌, ◌≤◌, ℕ};
+//! A disk in memory, which keeps each step, so that a crash at each moment can be made.
+ghost use Rattle.std.specs.Prelude.{◌≡◌, ◌≤◌, ◌<◌, ◌+◌, ◌^◌, ◌↔◌, [], IfOk, IsTrue, length};
+ghost use Rattle.disk_trait.specs.Disk.{ReadsAt};
+ghost use Rattle.disk_trait.specs.Contents.{empty};
+ghost use Rattle.disk_trait.specs.History.{MemDiskView, IsConsistent, disk_view_of};
 ghost use Rattle.disk_trait.specs.Stays.{stays};
-ghost use Rattle.disk_trait.specs.History.{Step};
-pub trait Foo {
-  ghost a: { ℕ };
-  fn f(&self) -> u64;
-  ghost law: { ℕ };
+
+use crate::disk::{Area, Disk};
+use crate::files::Files;
+use crate::journal::Journal;
+use crate::plan::Plan;
+use outside_traits::{Failed, Memory};
+use std::alloc::{AllocError, Global};
+use std::marker::Model;
+
+/// The room of a disk in memory, in bytes: of each area, and of its record of calls. A recorded call takes 32 bytes of
+/// the second, and a write its bytes besides.
+#[derive(Clone, Copy, Debug, PartialEq, Eq)]
+pub struct Room {
+    pub bytes: u64,
+    pub journal: u64,
+}
+
+/// A disk in memory. It fails at the calls that are planned, past its room and at the end of its count of calls, and
+/// nowhere else. A call that fails changes nothing.
+#[derive(Drop)]
+pub struct MemDisk {
+    start: Files,
+    files: Files,
+    journal: Journal,
+    room: Room,
+    plan: Plan,
+}
+
+impl Model for MemDisk {
+    ghost use Rattle.disk_trait.specs.History.{MemDiskView, IsConsistent};
+
+    ghost Value = { MemDiskView };
+
+    ghost view = { λ disk. record {
+      start = disk.start;
+      steps = disk.journal.steps;
+      room = disk.room.bytes;
+      left = disk.journal.left;
+      planned = disk.plan.calls.items;
+      made = disk.plan.made;
+      faults = disk.plan.faults;
+    } };
+
+    ghost invariant = { λ disk. IsConsistent disk.start disk.files disk.journal.steps disk.plan.made };
+}
+
+impl MemDisk {
+    /// An empty disk that takes all its room at once. No call is to fail.
+    pub fn new(alloc: Global, room: &Room) -> Result<MemDisk, Memory>
+        ensures start { IfOk result (λ disk. disk.start ≡ empty) }
+        ensures steps { IfOk result (λ disk. disk.steps ≡ []) }
+        ensures room { IfOk result (λ disk. disk.room ≡ room.now.bytes) }
+        ensures left { IfOk result (λ disk. disk.left ≡ room.now.journal) }
+        ensures planned { IfOk result (λ disk. disk.planned ≡ []) }
+        ensures made { IfOk result (λ disk. disk.made ≡ 0) }
+        ensures faults { IfOk result (λ disk. disk.faults ≡ 0) }
+    {
+        match make(alloc, room) {
+            Ok(disk) => Ok(disk),
+            Err(_) => Err(Memory),
+        }
+    }
+
+    /// From now on the calls of these numbers fail, counted from 0 since it was made.
+    pub fn plan_faults(&mut self, calls: Vec<u64>)
+        ensures planned { self.new ≡ record self.old { planned = calls.items } }
+    {
+        self.plan.calls = calls;
+    }
+
+    /// How many calls were made.
+    pub fn calls(&self) -> u64
+        ensures { result ≡ self.now.made }
+    {
+        self.plan.made
+    }
+}
+
+fn make(alloc: Global, room: &Room) -> Result<MemDisk, AllocError>
+    ensures start { IfOk result (λ disk. disk.start ≡ empty) }
+    ensures steps { IfOk result (λ disk. disk.steps ≡ []) }
+    ensures room { IfOk result (λ disk. disk.room ≡ room.now.bytes) }
+    ensures left { IfOk result (λ disk. disk.left ≡ room.now.journal) }
+    ensures planned { IfOk result (λ disk. disk.planned ≡ []) }
+    ensures made { IfOk result (λ disk. disk.made ≡ 0) }
+    ensures faults { IfOk result (λ disk. disk.faults ≡ 0) }
+{
+    let start = Files::new(alloc, 0)?;
+    let files = Files::new(alloc, room.bytes as usize)?;
+    let journal = Journal::new(alloc, room.journal as usize)?;
+    Ok(MemDisk {
+        start,
+        files,
+        journal,
+        room: *room,
+        plan: Plan::new(alloc),
+    })
+}
+
+// Reads the bytes from `at` on, and gives their number.
+fn read_from(file: &[u8], at: u64, into: &mut [u8]) -> usize
+    ensures { ReadsAt at file.now into.old into.new result }
+{
+    if at >= file.len() as u64 {
+        return 0;
+    }
+    let rest = &file[at as usize..];
+    let n = into.len().min(rest.len());
+    into[..n].copy_from_slice(&rest[..n]);
+    n
+}
+
+// Whether so many bytes at this place end within the room.
+fn is_within(at: u64, len: usize, room: u64) -> bool
+    ensures { IsTrue result ↔ (at + len ≤ room) }
+{
+    at <= room && len as u64 <= room - at
+}
+
+impl Disk for MemDisk {
+    ghost disk = { disk_view_of };
+
+    ghost may_stay = { λ disk honest. stays disk };
+
+    fn read(&mut self, area: Area, at: u64, into: &mut [u8]) -> Result<usize, Failed> {
+        if self.plan.next().is_none() {
+            return Err(self.plan.fail());
+        }
+        Ok(read_from(self.files.of(area), at, into))
+    }
+
+    fn write(&mut self, area: Area, at: u64, bytes: &[u8]) -> Result<(), Failed> {
+        let Some(call) = self.plan.next() else {
+            return Err(self.plan.fail());
+        };
+        if !is_within(at, bytes.len(), self.room.bytes) || !self.journal.has_room(bytes.len()) {
+            return Err(self.plan.fail());
+        }
+        if self.files.overlay(area, at as usize, bytes).is_err() {
+            return Err(self.plan.fail());
+        }
+        self.journal.write(call, area, at as usize, bytes);
+        Ok(())
+    }
+
+    fn cut(&mut self, area: Area, to: u64) -> Result<(), Failed> {
+        let Some(call) = self.plan.next() else {
+            return Err(self.plan.fail());
+        };
+        if !self.journal.has_room(0) {
+            return Err(self.plan.fail());
+        }
+        self.files.cut(area, to as usize);
+        self.journal.cut(call, area, to as usize);
+        Ok(())
+    }
+
+    fn sync(&mut self, area: Area) -> Result<(), Failed> {
+        let Some(call) = self.plan.next() else {
+            return Err(self.plan.fail());
+        };
+        if !self.journal.has_room(0) {
+            return Err(self.plan.fail());
+        }
+        self.journal.sync(call, area);
+        Ok(())
+    }
+
+    fn size(&mut self, area: Area) -> Result<u64, Failed> {
+        if self.plan.next().is_none() {
+            return Err(self.plan.fail());
+        }
+        Ok(self.files.of(area).len() as u64)
+    }
+
+    fn faults(&self) -> u64 {
+        self.plan.faults
+    }
 }

@@ -20,7 +20,7 @@ keeps_touches R area old new none keeps = record {
 
 -- a disk of which only this is seen
 abbrev disk_of : Contents → List Step → ℕ → ℕ → MemDiskView
-disk_of start steps made faults = record { start = start; steps = steps; room = 0; left = 0; planned = []; made = made; faults = faults }
+disk_of start steps made faults = record { start = start; steps = steps; room = record { bytes = 0; journal = 0 }; left = 0; planned = []; made = made; faults = faults }
 
 module _ (start start' : Contents) (steps steps' : List Step) (made made' faults faults' : ℕ) (same : start' ≡ start) (before : AreBefore made steps) where
   abbrev old : MemDiskView

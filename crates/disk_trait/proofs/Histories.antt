@@ -50,7 +50,7 @@ at_false : (b : Bool) (P Q : Type 0) → b ≡ false → MatchBool b P Q → Q
 at_false true P Q e h = cc
 at_false false P Q e h = h
 
-before_or_after : (m n : ℕ) → (m ≤ n) ⊎ (n < m)
+pub before_or_after : (m n : ℕ) → (m ≤ n) ⊎ (n < m)
 before_or_after m n = search (arith)
 
 -- a call that adds a step

@@ -1,4 +1,6 @@
 mod Calls
+mod CrashImages
 mod Histories
 mod Overlays
+mod Replays
 mod Rows

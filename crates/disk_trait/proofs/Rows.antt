@@ -1,7 +1,8 @@
 -- The rows of a journal as steps, when one more comes.
-use Rattle.std.proofs.Common.{◌≡◌, ℕ, ◌+◌, ◌-◌, ◌^◌, ◌<◌, ◌≤◌, List, [], ◌∷◌, ◌++◌, map, reverse, length, take, drop, refl, sym, ◌∙◌, ap, subst, arith, length-append, length-drop}
+use Rattle.std.proofs.Common.{◌≡◌, ℕ, ◌+◌, ◌-◌, ◌^◌, ◌<◌, ◌≤◌, List, [], ◌∷◌, ◌++◌, map, reverse, length, get_or, take, drop, refl, sym, ◌∙◌, ap, subst, arith, length-append, length-drop}
 use Rattle.std.specs.List.{AllByRecursion}
-use Rattle.std.proofs.lemmas.List.{reverse-append, take-append-le, drop-append-le, drop_at, take_all}
+use Rattle.std.proofs.lemmas.List.Elements.{All-push, recursion_from_All}
+use Rattle.std.proofs.lemmas.List.{reverse-append, map-append, take-append-le, drop-append-le, drop_at, take_all}
 use Rattle.disk_trait.specs.declared.disk.Area.{Area}
 use Rattle.disk_trait.specs.declared.journal.Kind.{Kind}
 use Rattle.disk_trait.specs.declared.journal.Kind.TheVariants.{Write, Cut, Sync}
@@ -30,21 +31,19 @@ module _ (payload more : List ℕ) where
       ap (λ (change : Change). record { call = row.call; area = row.area; change = change } ∷ map (step_in (payload ++ more)) rows) (change-more row.kind has.0)
       ∙ ap (λ (steps : List Step). step_in payload row ∷ steps) (steps-more rows has.1)
 
-  all-more : (rows : List Row) → AllByRecursion (λ row. HasBytes payload row.kind) rows → AllByRecursion (λ row. HasBytes (payload ++ more) row.kind) rows
-  all-more [] has = has
-  all-more (row ∷ rows) has = (has-more row.kind has.0, all-more rows has.1)
-
   pub rows_written : (rows : List Row) (row : Row) → RowsHaveBytes payload rows → HasBytes (payload ++ more) row.kind → RowsHaveBytes (payload ++ more) (rows ++ row ∷ [])
-  rows_written rows row has here = subst (λ (rows : List Row). AllByRecursion (λ row. HasBytes (payload ++ more) row.kind) rows) (sym (reverse-append rows (row ∷ []))) (here, all-more (reverse rows) has)
+  rows_written rows row has here = All-push (λ (row : Row). HasBytes (payload ++ more) row.kind) rows row (λ k d lt. has-more (get_or rows k d).kind (has k d lt)) here
 
   -- a row for a write of the bytes that were added
   pub steps_written : (rows : List Row) (call at : ℕ) (area : Area) → RowsHaveBytes payload rows
       → steps_in (payload ++ more) (rows ++ record { call = call; area = area; kind = Write at (length payload) (length more) } ∷ []) ≡ record { call = call; area = area; change = wrote at more } ∷ steps_in payload rows
   steps_written rows call at area has =
-      ap (λ (rows : List Row). map (step_in (payload ++ more)) rows) (reverse-append rows (record { call = call; area = area; kind = Write at (length payload) (length more) } ∷ []))
-      ∙ ap (λ (bytes : List ℕ). record { call = call; area = area; change = wrote at bytes } ∷ map (step_in (payload ++ more)) (reverse rows))
+      let row : Row = record { call = call; area = area; kind = Write at (length payload) (length more) } in
+      ap (λ (steps : List Step). reverse steps) (map-append (step_in (payload ++ more)) rows (row ∷ []))
+      ∙ reverse-append (map (step_in (payload ++ more)) rows) (step_in (payload ++ more) row ∷ [])
+      ∙ ap (λ (bytes : List ℕ). record { call = call; area = area; change = wrote at bytes } ∷ reverse (map (step_in (payload ++ more)) rows))
       (ap (λ (bytes : List ℕ). take (length more) bytes) (drop_at payload more (length payload) refl) ∙ take_all (length more) more (omega arith))
-      ∙ ap (λ (steps : List Step). record { call = call; area = area; change = wrote at more } ∷ steps) (steps-more (reverse rows) has)
+      ∙ ap (λ (steps : List Step). record { call = call; area = area; change = wrote at more } ∷ reverse steps) (steps-more rows (recursion_from_All (λ (row : Row). HasBytes payload row.kind) rows has))
 
 -- the same, over what the lists have become
 module _ (payload payload' bytes : List ℕ) (rows rows' : List Row) (call at from : ℕ) (area : Area)

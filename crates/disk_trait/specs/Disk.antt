@@ -73,9 +73,17 @@ pub record Keeps (old new : DiskView) : Type 0 where
 abbrev pub IsSynced : Area → DiskView → Type 0
 IsSynced area disk = (c : List ℕ) → disk.image disk.moment area c → c ≡ disk.reads area
 
+-- nothing is unsynced
+abbrev pub IsSettled : DiskView → Type 0
+IsSettled disk = (area : Area) → IsSynced area disk
+
+-- a crash at this moment may leave the areas like this
+abbrev pub IsImage : DiskView → ℕ → (Area → List ℕ) → Type 0
+IsImage disk t areas = (area : Area) → disk.image t area (areas area)
+
 -- as it reads is one of the ways in which a crash now may leave it
 abbrev pub MayStay : DiskView → Type 0
-MayStay disk = (area : Area) → disk.image disk.moment area (disk.reads area)
+MayStay disk = IsImage disk disk.moment disk.reads
 
 -- a read from this place into old_into: as many bytes as the area has there, and the rest of the place stays
 pub record ReadsAt (at : ℕ) (area old_into new_into : List ℕ) (n : ℕ) : Type 0 where

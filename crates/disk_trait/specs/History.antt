@@ -1,6 +1,7 @@
 -- What a disk in memory keeps: the steps that changed it, what they make of its areas, and what a crash may leave.
 use Rattle.std.specs.Prelude.{◌≡◌, ℕ, ◌+◌, ◌-◌, ◌<◌, ◌≤◌, ◌==◌, nat_lt, MatchBool, Bool, true, false, ◌&&◌, ◌||◌, if◌then◌else◌, List, [], ◌∷◌, length, take, drop, ⊤}
 use Rattle.disk_trait.specs.declared.disk.Area.{Area}
+use Rattle.disk_trait.specs.declared.memory.Room.{Room}
 use Rattle.disk_trait.specs.Disk.{DiskView, is_same, overlay, Torn, Cut}
 use Rattle.disk_trait.specs.Contents.{Contents, content_of, with_content}
 
@@ -54,12 +55,12 @@ abbrev pub AreBefore : ℕ → List Step → Type 0
 AreBefore call [] = ⊤
 AreBefore call (step ∷ earlier) = step.call < call
 
--- a disk in memory: what its areas had at first, its steps since, the room of each area and what is left of its
--- journal's, the numbers of the calls that are to fail, how many calls were made, and how many failed
+-- a disk in memory: what its areas had at first, its steps since, its room, what is left of its journal's, the numbers
+-- of the calls that are to fail, how many calls were made, and how many failed
 pub record MemDiskView : Type 0 where
   pub start : Contents
   pub steps : List Step
-  pub room : ℕ
+  pub room : Room
   pub left : ℕ
   pub planned : List ℕ
   pub made : ℕ

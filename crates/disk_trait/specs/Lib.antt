@@ -1,4 +1,5 @@
 pub mod Contents
+pub mod Crash
 pub mod Disk
 pub mod History
 pub mod Journal

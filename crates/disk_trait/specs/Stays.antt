@@ -38,7 +38,7 @@ is_same_self BitsB = refl
 is_same_self Blocks = refl
 
 -- what a change makes of an area is one of the ways in which a crash may leave it
-takes_now : (change : Change) (now : List ℕ) (before : List ℕ → Type 0) → before now → Takes change now before (changed change now)
+pub takes_now : (change : Change) (now : List ℕ) (before : List ℕ → Type 0) → before now → Takes change now before (changed change now)
 takes_now (wrote at bytes) now before here = (now, here, torn_overlay at (length bytes) bytes now (omega arith))
 takes_now (cut_to to) now before here = (now, here, cut_whole to now)
 takes_now synced now before here = refl

@@ -1,9 +1,12 @@
 //! The record of what was done to a disk in memory.
-ghost use Rattle.std.specs.Prelude.{◌≡◌, ◌↔◌, ◌≤◌, ◌<◌, ◌+◌, ◌-◌, ◌^◌, ◌++◌, ◌∷◌, [], ℕ, IfOk, IsTrue, length, vec_capacity};
-ghost use Rattle.disk_trait.specs.History.{wrote, cut_to, synced};
+ghost use Rattle.std.specs.Prelude.{◌≡◌, ◌↔◌, ◌≤◌, ◌<◌, ◌+◌, ◌-◌, ◌^◌, ◌++◌, ◌∷◌, [], ℕ, IfOk, OnOk, reverse, IsTrue, length, vec_capacity};
+ghost use Rattle.disk_trait.specs.History.{wrote, cut_to, synced, until};
+ghost use Rattle.disk_trait.specs.Crash.{kept};
 ghost use Rattle.disk_trait.specs.Journal.{JournalView, IsKept, steps_in};
 
 use crate::disk::Area;
+use crate::files::Files;
+use crate::replay::{replay_rows, rows_before};
 use std::alloc::{AllocError, Global};
 use std::marker::Model;
 
@@ -104,6 +107,15 @@ impl Journal {
         let kind = Kind::Sync;
         push_row(&mut self.rows, Row { call, area, kind });
         self.left -= ROW_BYTES;
+    }
+
+    /// Does to the areas what is left of the steps before `moment` where the first `keep` bytes are kept of those that
+    /// weren't synced then.
+    pub fn replay(&self, files: &mut Files, moment: u64, keep: u64) -> Result<(), AllocError>
+        ensures { OnOk result (files.new ≡ kept keep (reverse (until moment self.now.steps)) files.old) }
+    {
+        let count = rows_before(&self.rows, moment);
+        replay_rows(&self.rows[..count], &self.payload, files, keep)
     }
 }
 

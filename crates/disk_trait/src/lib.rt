@@ -8,6 +8,7 @@ mod files;
 mod journal;
 mod memory;
 mod plan;
+mod replay;
 
 pub use disk::{Area, Disk};
 pub use memory::{MemDisk, Room};

@@ -1,8 +1,9 @@
 //! A disk in memory, which keeps each step, so that a crash at each moment can be made.
 ghost use Rattle.std.specs.Prelude.{◌≡◌, ◌≤◌, ◌<◌, ◌+◌, ◌^◌, ◌↔◌, [], IfOk, IsTrue, length};
-ghost use Rattle.disk_trait.specs.Disk.{ReadsAt};
+ghost use Rattle.disk_trait.specs.Disk.{ReadsAt, IsImage, IsSettled};
 ghost use Rattle.disk_trait.specs.Contents.{empty};
 ghost use Rattle.disk_trait.specs.History.{MemDiskView, IsConsistent, disk_view_of};
+ghost use Rattle.disk_trait.specs.Crash.{crashed};
 ghost use Rattle.disk_trait.specs.Stays.{stays};
 
 use crate::disk::{Area, Disk};
@@ -40,7 +41,7 @@ impl Model for MemDisk {
     ghost view = { λ disk. record {
       start = disk.start;
       steps = disk.journal.steps;
-      room = disk.room.bytes;
+      room = disk.room;
       left = disk.journal.left;
       planned = disk.plan.calls.items;
       made = disk.plan.made;
@@ -55,7 +56,7 @@ impl MemDisk {
     pub fn new(alloc: Global, room: &Room) -> Result<MemDisk, Memory>
         ensures start { IfOk result (λ disk. disk.start ≡ empty) }
         ensures steps { IfOk result (λ disk. disk.steps ≡ []) }
-        ensures room { IfOk result (λ disk. disk.room ≡ room.now.bytes) }
+        ensures room { IfOk result (λ disk. disk.room ≡ room.now) }
         ensures left { IfOk result (λ disk. disk.left ≡ room.now.journal) }
         ensures planned { IfOk result (λ disk. disk.planned ≡ []) }
         ensures made { IfOk result (λ disk. disk.made ≡ 0) }
@@ -74,6 +75,42 @@ impl MemDisk {
         self.plan.calls = calls;
     }
 
+    /// The disk that a crash after the first `moment` calls leaves where, of the bytes that weren't synced then, the
+    /// first `keep` in the order of writing are there and the others aren't. A cut that wasn't synced counts for one
+    /// byte. The new disk has the same room, its calls are counted from 0, and none is to fail.
+    pub fn crash(&self, alloc: Global, moment: u64, keep: u64) -> Result<MemDisk, Memory>
+        requires { moment ≤ self.now.made }
+        ensures image { IfOk result (λ disk. IsImage (disk_view_of self.now) moment (disk_view_of disk).reads) }
+        ensures settled { IfOk result (λ disk. IsSettled (disk_view_of disk)) }
+        ensures kept { IfOk result (λ disk. disk ≡ crashed moment keep self.now) }
+    {
+        match self.make_crashed(alloc, moment, keep) {
+            Ok(disk) => Ok(disk),
+            Err(_) => Err(Memory),
+        }
+    }
+
+    fn make_crashed(
+        &self,
+        alloc: Global,
+        moment: u64,
+        keep: u64,
+    ) -> Result<MemDisk, AllocError>
+        ensures { IfOk result (λ disk. disk ≡ crashed moment keep self.now) }
+    {
+        let mut files = self.start.copy(alloc, self.room.bytes as usize)?;
+        self.journal.replay(&mut files, moment, keep)?;
+        let start = files.copy(alloc, 0)?;
+        let journal = Journal::new(alloc, self.room.journal as usize)?;
+        Ok(MemDisk {
+            start,
+            files,
+            journal,
+            room: self.room,
+            plan: Plan::new(alloc),
+        })
+    }
+
     /// How many calls were made.
     pub fn calls(&self) -> u64
         ensures { result ≡ self.now.made }
@@ -85,7 +122,7 @@ impl MemDisk {
 fn make(alloc: Global, room: &Room) -> Result<MemDisk, AllocError>
     ensures start { IfOk result (λ disk. disk.start ≡ empty) }
     ensures steps { IfOk result (λ disk. disk.steps ≡ []) }
-    ensures room { IfOk result (λ disk. disk.room ≡ room.now.bytes) }
+    ensures room { IfOk result (λ disk. disk.room ≡ room.now) }
     ensures left { IfOk result (λ disk. disk.left ≡ room.now.journal) }
     ensures planned { IfOk result (λ disk. disk.planned ≡ []) }
     ensures made { IfOk result (λ disk. disk.made ≡ 0) }

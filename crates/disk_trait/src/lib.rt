@@ -5,10 +5,12 @@
 
 mod disk;
 mod files;
+mod fuse;
 mod journal;
 mod memory;
 mod plan;
 mod replay;
 
 pub use disk::{Area, Disk};
+pub use fuse::FuseDisk;
 pub use memory::{MemDisk, Room};

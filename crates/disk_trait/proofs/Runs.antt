@@ -85,3 +85,40 @@ touches_on old mid new P R area so_far touches step = goes_on old mid new P so_f
     (λ x. image_before mid new R area touches t areas from to image taken.0 taken.1 x (is_same area x) refl)
     (subst (λ (c : List ℕ). R c (areas area)) (sym (swapped_here area taken.0 areas)) taken.2)
     (λ other apart. sym (swapped_other area taken.0 areas other apart)))
+
+-- a call that touches one area, and then one that touches nothing
+pub touches_keeps : (R : List ℕ → List ℕ → Type 0) (area : Area) (old mid new : DiskView) → Touches R area old mid → Keeps mid new → Touches R area old new
+touches_keeps R area old mid new touches keeps = record {
+  time = elapses_on old mid new touches.time keeps.time;
+  here = record {
+    reads = subst (λ (c : List ℕ). R (old.reads area) c) (sym (keeps.each area).reads) touches.here.reads;
+    images = λ t c from to image. elim (before_or_after t mid.moment) [
+      | inl le ↦ touches.here.images t c from le ((keeps.time.past t area c le).0 image)
+      | inr lt ↦ touches.here.images mid.moment c touches.time.later (omega arith) ((keeps.each area).images t c (omega (arith, lt)) to image)
+    ];
+  };
+  others = λ other apart. record {
+    reads = (keeps.each other).reads ∙ (touches.others other apart).reads;
+    images = λ t c from to image. elim (before_or_after t mid.moment) [
+      | inl le ↦ (touches.others other apart).images t c from le ((keeps.time.past t other c le).0 image)
+      | inr lt ↦ (touches.others other apart).images mid.moment c touches.time.later (omega arith) ((keeps.each other).images t c (omega (arith, lt)) to image)
+    ];
+  };
+}
+
+-- an area that rests stays synced
+pub rests_synced : (area : Area) (old new : DiskView) → old.moment ≤ new.moment → Rests area old new → IsSynced area old → IsSynced area new
+rests_synced area old new later rests synced c image = synced c (rests.images new.moment c later (omega arith) image) ∙ sym rests.reads
+
+-- two calls that touch nothing
+pub keeps_keeps : (old mid new : DiskView) → Keeps old mid → Keeps mid new → Keeps old new
+keeps_keeps old mid new first second = record {
+  time = elapses_on old mid new first.time second.time;
+  each = λ area. record {
+    reads = (second.each area).reads ∙ (first.each area).reads;
+    images = λ t c from to image. elim (before_or_after t mid.moment) [
+      | inl le ↦ (first.each area).images t c from le ((second.time.past t area c le).0 image)
+      | inr lt ↦ (first.each area).images mid.moment c first.time.later (omega arith) ((second.each area).images t c (omega (arith, lt)) to image)
+    ];
+  };
+}

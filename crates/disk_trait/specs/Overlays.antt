@@ -1,6 +1,6 @@
 -- What a write and a cut make of a file, whole and in part.
-use Rattle.std.proofs.Common.{◌≡◌, ℕ, ◌+◌, ◌-◌, ◌<◌, ◌≤◌, min, max, List, [], ◌∷◌, ◌++◌, length, take, drop, replicate, refl, sym, ◌∙◌, ap, arith, length-append, length-drop, length-take}
-use Rattle.std.proofs.lemmas.List.{take_all, take-append-le, take-take, length-replicate, take_min}
+use Rattle.std.proofs.Common.{◌≡◌, ℕ, ◌+◌, ◌-◌, ◌<◌, ◌≤◌, min, max, List, [], ◌∷◌, ◌++◌, length, take, drop, replicate, refl, sym, ◌∙◌, ap, arith, length-append, length-drop, length-take, take-append-drop}
+use Rattle.std.proofs.lemmas.List.{append-nil, take_all, take-append-le, take-take, length-replicate, take_min}
 use Rattle.std.proofs.lemmas.Slice.{drop-append-drop}
 use Rattle.disk_trait.specs.Disk.{overlay, Torn, Cut}
 
@@ -43,3 +43,15 @@ cut_whole to old = record {
   no_shorter = omega (arith, length-take to old);
   front = sym (ap (λ (k : ℕ). take k old) (length-take to old) ∙ take_min to old);
 }
+
+-- a write that leaves no gap
+pub overlay_within : (at : ℕ) (bytes old : List ℕ) → at ≤ length old → overlay at bytes old ≡ take at old ++ bytes ++ drop (at + length bytes) old
+overlay_within at [] old le =
+    let same : at ≡ at + length {A = ℕ} [] = omega arith in
+    sym (take-append-drop at old)
+    ∙ ap (λ (k : ℕ). take at old ++ drop k old) same
+    ∙ ap (λ (front : List ℕ). front ++ drop (at + length {A = ℕ} []) old) (sym (append-nil (take at old)))
+overlay_within at (b ∷ bytes) old le =
+    let none : at - length old ≡ 0 = omega arith in
+    ap (λ (n : ℕ). take at old ++ replicate n 0 ++ (b ∷ bytes) ++ drop (at + length (b ∷ bytes)) old) none
+    ∙ ap (λ (front : List ℕ). front ++ (b ∷ bytes) ++ drop (at + length (b ∷ bytes)) old) (append-nil (take at old))

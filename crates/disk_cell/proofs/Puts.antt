@@ -106,13 +106,13 @@ module _ (old asked : DiskView) (gate : ℕ) (bytes : List ℕ) (ready : IsReady
             let stays : (area : Area) → is_same Oplog area ≡ false → now area ≡ mid.reads area = λ area apart. others area apart ∙ settled_mid area (before area) (image area) in
             elim (either_copy gate (gate_of (now Oplog))) [
               | inl copy ↦ inl (
-                ap (λ (area : Area). take 2 (now area)) copy
-                ∙ ap (λ (l : List ℕ). take 2 l) (stays (copy_at gate) (no_gate_copy gate) ∙ same_copy)
-                ∙ ap (λ (g : ℕ). take 2 (old.reads (copy_at g))) read)
+                  ap (λ (area : Area). take 2 (now area)) copy
+                  ∙ ap (λ (l : List ℕ). take 2 l) (stays (copy_at gate) (no_gate_copy gate) ∙ same_copy)
+                  ∙ ap (λ (g : ℕ). take 2 (old.reads (copy_at g))) read)
               | inr spare ↦ inr (
-                ap (λ (area : Area). take 2 (now area)) spare
-                ∙ ap (λ (l : List ℕ). take 2 l) (stays (spare_at gate) (no_gate_spare gate))
-                ∙ spare_is)
+                  ap (λ (area : Area). take 2 (now area)) spare
+                  ∙ ap (λ (l : List ℕ). take 2 l) (stays (spare_at gate) (no_gate_spare gate))
+                  ∙ spare_is)
             ])
 
         pub put_cell : {T E : Type 0} (answer : Result T E) → OnOk answer (new.reads Oplog ≡ overlay 0 (next ∷ []) (mid.reads Oplog)) → OnOk answer (cell_of new.reads ≡ bytes)

@@ -79,3 +79,40 @@ fn store<D: Disk>(disk: &mut D, area: Area, bytes: &[u8]) -> Result<(), Failed>
     disk.write(area, 0, bytes)?;
     disk.sync(area)
 }
+
+#[cfg(test)]
+mod tests {
+    use super::*;
+    use disk_trait::{MemDisk, Room};
+    use std::test::Fail;
+
+    const ROOM: Room = Room {
+        bytes: 2,
+        journal: 512,
+    };
+
+    #[test]
+    fn a_crash_leaves_the_old_cell_or_the_new_one(rt: HostRuntime) -> Result<(), Fail> {
+        let alloc = rt.alloc();
+        let mut disk = MemDisk::new(alloc, &ROOM)?;
+        put(&mut disk, &[1, 2])?;
+        let before = disk.calls();
+        put(&mut disk, &[3, 4])?;
+        for moment in before..=disk.calls() {
+            for keep in 0..4 {
+                let mut left = disk.crash(alloc, moment, keep)?;
+                let mut cell = [0; 2];
+                assert_eq!(rt; get(&mut left, &mut cell)?, 2, "at {moment}, {keep} kept");
+                assert!(rt;
+                    cell == [1, 2] || cell == [3, 4],
+                    "at {moment}, {keep} kept"
+                );
+                assert!(rt;
+                    moment < disk.calls() || cell == [3, 4],
+                    "at {moment}, {keep} kept"
+                );
+            }
+        }
+        Ok(())
+    }
+}

@@ -52,7 +52,7 @@ module _ (start : Contents) (past rest : List Step) (step : Step) (keep : ℕ) (
 
   next : Contents
   next = replayed (is_synced_by step.area rest) keep step now
-  
+
   here : Takes step.change (content_of (now_of start past) step.area) (Leaves start past step.area) (content_of (replayed (is_synced_by step.area rest) keep step now) step.area)
   here =
       subst (λ (x : List ℕ). Takes step.change (content_of (now_of start past) step.area) (Leaves start past step.area) x) (sym (content_same step.area _ now))

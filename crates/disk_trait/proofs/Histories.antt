@@ -77,8 +77,8 @@ module _ (v w : MemDiskView) (step : Step) (start : w.start ≡ v.start) (steps 
   either : (t : ℕ) (area : Area) (c : List ℕ) → v.made ≤ t → Leaves w.start (until t w.steps) area c → Leaves v.start (until v.made v.steps) area c ⊎ Leaves v.start (step ∷ v.steps) area c
   either t area c from left = elim (before_or_after t v.made) [
     | inl le ↦
-      let here : t ≡ v.made = omega arith in
-      inl (moved w.start v.start (until t w.steps) (until v.made v.steps) area c start (then t le ∙ ap (λ (n : ℕ). until n v.steps) here) left)
+        let here : t ≡ v.made = omega arith in
+        inl (moved w.start v.start (until t w.steps) (until v.made v.steps) area c start (then t le ∙ ap (λ (n : ℕ). until n v.steps) here) left)
     | inr lt ↦ inr (moved w.start v.start (until t w.steps) (step ∷ v.steps) area c start (since t lt) left)
   ]
 

@@ -12,26 +12,26 @@ le_cases m n = search (arith)
 take-filled : (at n : ℕ) (file : List ℕ) → at ≤ n → take at (filled n file) ≡ take at file ++ replicate (at - length file) 0
 take-filled at n file le = elim (le_cases at (length file)) [
   | inl short ↦
-    let none : at - length file ≡ 0 = omega arith in
-    take-append-le at file (replicate (n - length file) 0) short
-    ∙ sym (append-nil (take at file))
-    ∙ ap (λ (k : ℕ). take at file ++ replicate k 0) (sym none)
+      let none : at - length file ≡ 0 = omega arith in
+      take-append-le at file (replicate (n - length file) 0) short
+      ∙ sym (append-nil (take at file))
+      ∙ ap (λ (k : ℕ). take at file ++ replicate k 0) (sym none)
   | inr long ↦
-    let past : at ≡ length file + (at - length file) = omega arith in
-    ap (λ (k : ℕ). take k (filled n file)) past
-    ∙ take-append-add file (replicate (n - length file) 0) (at - length file)
-    ∙ ap (λ (l : List ℕ). file ++ l) (take-replicate (at - length file) (n - length file) 0 (omega arith))
-    ∙ ap (λ (l : List ℕ). l ++ replicate (at - length file) 0) (sym (take_all at file long))
+      let past : at ≡ length file + (at - length file) = omega arith in
+      ap (λ (k : ℕ). take k (filled n file)) past
+      ∙ take-append-add file (replicate (n - length file) 0) (at - length file)
+      ∙ ap (λ (l : List ℕ). file ++ l) (take-replicate (at - length file) (n - length file) 0 (omega arith))
+      ∙ ap (λ (l : List ℕ). l ++ replicate (at - length file) 0) (sym (take_all at file long))
 ]
 
 drop-filled : (n : ℕ) (file : List ℕ) → drop n (filled n file) ≡ drop n file
 drop-filled n file = elim (le_cases n (length file)) [
   | inl short ↦
-    let none : n - length file ≡ 0 = omega arith in
-    ap (λ (k : ℕ). drop n (file ++ replicate k 0)) none ∙ ap (λ (l : List ℕ). drop n l) (append-nil file)
+      let none : n - length file ≡ 0 = omega arith in
+      ap (λ (k : ℕ). drop n (file ++ replicate k 0)) none ∙ ap (λ (l : List ℕ). drop n l) (append-nil file)
   | inr long ↦
-    drop_all n (filled n file) (omega (arith, length-append file (replicate (n - length file) 0), length-replicate {A = ℕ} (n - length file) 0))
-    ∙ sym (drop_all n file long)
+      drop_all n (filled n file) (omega (arith, length-append file (replicate (n - length file) 0), length-replicate {A = ℕ} (n - length file) 0))
+      ∙ sym (drop_all n file long)
 ]
 
 -- filling up and then writing is the write

@@ -94,11 +94,11 @@ module _ (area : Area) (rows : List Row) (p : ℕ) (d : Row) (within : p < lengt
   pub last_is : (i : ℕ) → has_sync area (drop (i + 1) rows) ≡ nat_lt i p
   last_is i = elim (before_or_after p i) [
     | inl past ↦
-      let none : has_sync area (drop (i + 1) rows) ≡ false = no_sync_from area rows (p + 1) (i + 1) (omega arith) last in
-      none ∙ (grind (arith, nat_tests))
+        let none : has_sync area (drop (i + 1) rows) ≡ false = no_sync_from area rows (p + 1) (i + 1) (omega arith) last in
+        none ∙ (grind (arith, nat_tests))
     | inr before ↦
-      let some : has_sync area (drop (i + 1) rows) ≡ true = sync_at area rows (i + 1) p (get_or rows p d) (omega arith) within (get_or_default rows p (get_or rows p d) d within) hit in
-      some ∙ (grind (arith, nat_tests))
+        let some : has_sync area (drop (i + 1) rows) ≡ true = sync_at area rows (i + 1) p (get_or rows p d) (omega arith) within (get_or_default rows p (get_or rows p d) d within) hit in
+        some ∙ (grind (arith, nat_tests))
   ]
 
 pub none_is : (area : Area) (rows : List Row) (at : ℕ) → at ≡ 0 → has_sync area (drop at rows) ≡ false → (i : ℕ) → has_sync area (drop (i + 1) rows) ≡ nat_lt i 0

@@ -1,5 +1,6 @@
 -- The bytes of five areas as one value, and a file that is filled up with zeros.
-use Rattle.std.specs.Prelude.{◌≡◌, ℕ, ◌+◌, ◌-◌, List, [], ◌++◌, length, take, drop, replicate}
+use Rattle.std.specs.Prelude.{◌≡◌, ℕ, ◌+◌, ◌-◌, ◌≤◌, List, [], ◌++◌, length, take, drop, replicate, Vec, vec_capacity}
+use Rattle.std.specs.declared.alloc.Global.{Global}
 use Rattle.disk_trait.specs.declared.disk.Area.{Area}
 use Rattle.disk_trait.specs.declared.disk.Area.TheVariants.{Oplog, Tree, BitsA, BitsB, Blocks}
 
@@ -36,3 +37,16 @@ filled end file = file ++ replicate (end - length file) 0
 -- the file with these bytes in place of those from this place on
 abbrev pub pasted : ℕ → List ℕ → List ℕ → List ℕ
 pasted at bytes file = take at file ++ bytes ++ drop (at + length bytes) file
+
+-- five areas in memory, and for how many bytes of each memory was taken
+pub record FilesView : Type 0 where
+  pub all : Contents
+  pub room : ℕ
+
+-- memory was taken for so many bytes of each
+pub record HasRoom (room : ℕ) (oplog tree bits_a bits_b blocks : Vec ℕ Global) : Type 0 where
+  pub oplog_room : room ≤ vec_capacity oplog
+  pub tree_room : room ≤ vec_capacity tree
+  pub bits_a_room : room ≤ vec_capacity bits_a
+  pub bits_b_room : room ≤ vec_capacity bits_b
+  pub blocks_room : room ≤ vec_capacity blocks

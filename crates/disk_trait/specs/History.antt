@@ -1,9 +1,10 @@
 -- What a disk in memory keeps: the steps that changed it, what they make of its areas, and what a crash may leave.
-use Rattle.std.specs.Prelude.{◌≡◌, ℕ, ◌+◌, ◌-◌, ◌<◌, ◌≤◌, ◌==◌, nat_lt, MatchBool, Bool, true, false, ◌&&◌, ◌||◌, if◌then◌else◌, List, [], ◌∷◌, length, take, drop, ⊤}
+use Rattle.std.specs.Prelude.{◌≡◌, ◌⊎◌, ℕ, ◌+◌, ◌^◌, ◌-◌, ◌<◌, ◌≤◌, ◌==◌, nat_lt, MatchBool, Bool, true, false, ◌&&◌, ◌||◌, if◌then◌else◌, List, [], ◌∷◌, length, take, drop, Result, is_ok, ⊤}
+use Rattle.std.specs.List.{Contains}
 use Rattle.disk_trait.specs.declared.disk.Area.{Area}
 use Rattle.disk_trait.specs.declared.memory.Room.{Room}
 use Rattle.disk_trait.specs.Disk.{DiskView, is_same, overlay, Torn, Cut}
-use Rattle.disk_trait.specs.Contents.{Contents, content_of, with_content}
+use Rattle.disk_trait.specs.Contents.{Contents, FilesView, content_of, with_content, empty}
 
 -- what a call did to an area
 pub data Change : Type 0 where
@@ -66,6 +67,10 @@ pub record MemDiskView : Type 0 where
   pub made : ℕ
   pub faults : ℕ
 
+-- a disk with all its room, and nothing in it
+abbrev pub fresh : Room → MemDiskView
+fresh room = record { start = empty; steps = []; room = room; left = room.journal; planned = []; made = 0; faults = 0 }
+
 -- it tells all that a disk may tell, and its clock is the number of its calls
 abbrev pub disk_view_of : MemDiskView → DiskView
 disk_view_of disk = record {
@@ -77,7 +82,19 @@ disk_view_of disk = record {
   calls = disk.made;
 }
 
--- the areas are what the steps made of what they had at first, and each step was made before this call
-pub record IsConsistent (start files : Contents) (steps : List Step) (made : ℕ) : Type 0 where
-  pub same : files ≡ now_of start steps
+-- the areas are what the steps made of what they had at first, with memory for all their room, and each step was made
+-- before this call
+pub record IsConsistent (start : Contents) (files : FilesView) (steps : List Step) (room : Room) (made : ℕ) : Type 0 where
+  pub same : files.all ≡ now_of start steps
+  pub taken : files.room ≡ room.bytes
   pub before : AreBefore made steps
+
+-- this call is to fail: it is planned, or the count of calls is at its end
+abbrev pub IsRefused : MemDiskView → Type 0
+IsRefused disk = Contains disk.planned disk.made ⊎ (disk.made ≡ 2 ^ 64 - 1)
+
+-- a call keeps the plan and the room, and takes so many bytes of the journal's where it succeeds
+pub record Spends {T E : Type 0} (bytes : ℕ) (old new : MemDiskView) (answer : Result T E) : Type 0 where
+  pub room : new.room ≡ old.room
+  pub planned : new.planned ≡ old.planned
+  pub left : new.left ≡ (if is_ok answer then old.left - bytes else old.left)

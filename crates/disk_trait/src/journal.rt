@@ -112,7 +112,8 @@ impl Journal {
     /// Does to the areas what is left of the steps before `moment` where the first `keep` bytes are kept of those that
     /// weren't synced then.
     pub fn replay(&self, files: &mut Files, moment: u64, keep: u64) -> Result<(), AllocError>
-        ensures { OnOk result (files.new ≡ kept keep (reverse (until moment self.now.steps)) files.old) }
+        ensures { OnOk result (files.new
+            ≡ record files.old { all = kept keep (reverse (until moment self.now.steps)) files.old.all }) }
     {
         let count = rows_before(&self.rows, moment);
         replay_rows(&self.rows[..count], &self.payload, files, keep)

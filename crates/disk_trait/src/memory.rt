@@ -1,14 +1,13 @@
 //! A disk in memory, which keeps each step, so that a crash at each moment can be made.
-ghost use Rattle.std.specs.Prelude.{◌≡◌, ◌≤◌, ◌<◌, ◌+◌, ◌^◌, ◌↔◌, [], IfOk, IsTrue, length};
-ghost use Rattle.disk_trait.specs.Disk.{ReadsAt, IsImage, IsSettled};
-ghost use Rattle.disk_trait.specs.Contents.{empty};
-ghost use Rattle.disk_trait.specs.History.{MemDiskView, IsConsistent, disk_view_of};
+ghost use Rattle.std.specs.Prelude.{◌≡◌, ◌≤◌, ◌<◌, ◌+◌, ◌^◌, ◌↔◌, ◌⊎◌, IsErr, IfOk, IsTrue, length};
+ghost use Rattle.disk_trait.specs.Disk.{ReadsAt, IsImage, IsSettled, Counts, Reads, Writes, Cuts, Syncs, Sizes};
+ghost use Rattle.disk_trait.specs.History.{MemDiskView, IsConsistent, disk_view_of, fresh, IsRefused, Spends};
 ghost use Rattle.disk_trait.specs.Crash.{crashed};
 ghost use Rattle.disk_trait.specs.Stays.{stays};
 
 use crate::disk::{Area, Disk};
 use crate::files::Files;
-use crate::journal::Journal;
+use crate::journal::{Journal, ROW_BYTES};
 use crate::plan::Plan;
 use outside_traits::{Failed, Memory};
 use std::alloc::{AllocError, Global};
@@ -39,7 +38,7 @@ impl Model for MemDisk {
     ghost Value = { MemDiskView };
 
     ghost view = { λ disk. record {
-      start = disk.start;
+      start = disk.start.all;
       steps = disk.journal.steps;
       room = disk.room;
       left = disk.journal.left;
@@ -48,19 +47,14 @@ impl Model for MemDisk {
       faults = disk.plan.faults;
     } };
 
-    ghost invariant = { λ disk. IsConsistent disk.start disk.files disk.journal.steps disk.plan.made };
+    ghost invariant = { λ disk. IsConsistent disk.start.all disk.files disk.journal.steps disk.room disk.plan.made };
 }
 
 impl MemDisk {
     /// An empty disk that takes all its room at once. No call is to fail.
     pub fn new(alloc: Global, room: &Room) -> Result<MemDisk, Memory>
-        ensures start { IfOk result (λ disk. disk.start ≡ empty) }
-        ensures steps { IfOk result (λ disk. disk.steps ≡ []) }
-        ensures room { IfOk result (λ disk. disk.room ≡ room.now) }
-        ensures left { IfOk result (λ disk. disk.left ≡ room.now.journal) }
-        ensures planned { IfOk result (λ disk. disk.planned ≡ []) }
-        ensures made { IfOk result (λ disk. disk.made ≡ 0) }
-        ensures faults { IfOk result (λ disk. disk.faults ≡ 0) }
+        ensures fresh { IfOk result (λ disk. disk ≡ fresh room.now) }
+        ensures settled { IfOk result (λ disk. IsSettled (disk_view_of disk)) }
     {
         match make(alloc, room) {
             Ok(disk) => Ok(disk),
@@ -90,12 +84,7 @@ impl MemDisk {
         }
     }
 
-    fn make_crashed(
-        &self,
-        alloc: Global,
-        moment: u64,
-        keep: u64,
-    ) -> Result<MemDisk, AllocError>
+    fn make_crashed(&self, alloc: Global, moment: u64, keep: u64) -> Result<MemDisk, AllocError>
         ensures { IfOk result (λ disk. disk ≡ crashed moment keep self.now) }
     {
         let mut files = self.start.copy(alloc, self.room.bytes as usize)?;
@@ -120,13 +109,7 @@ impl MemDisk {
 }
 
 fn make(alloc: Global, room: &Room) -> Result<MemDisk, AllocError>
-    ensures start { IfOk result (λ disk. disk.start ≡ empty) }
-    ensures steps { IfOk result (λ disk. disk.steps ≡ []) }
-    ensures room { IfOk result (λ disk. disk.room ≡ room.now) }
-    ensures left { IfOk result (λ disk. disk.left ≡ room.now.journal) }
-    ensures planned { IfOk result (λ disk. disk.planned ≡ []) }
-    ensures made { IfOk result (λ disk. disk.made ≡ 0) }
-    ensures faults { IfOk result (λ disk. disk.faults ≡ 0) }
+    ensures { IfOk result (λ disk. disk ≡ fresh room.now) }
 {
     let start = Files::new(alloc, 0)?;
     let files = Files::new(alloc, room.bytes as usize)?;
@@ -165,14 +148,25 @@ impl Disk for MemDisk {
 
     ghost may_stay = { λ disk honest. stays disk };
 
-    fn read(&mut self, area: Area, at: u64, into: &mut [u8]) -> Result<usize, Failed> {
+    fn read(&mut self, area: Area, at: u64, into: &mut [u8]) -> Result<usize, Failed>
+        ensures counts { Counts (disk_view_of self.old) (disk_view_of self.new) result }
+        ensures reads { IsTrue (disk_view_of self.old).honest → Reads area at into.old into.new (disk_view_of self.old) (disk_view_of self.new) result }
+        ensures fails { IsErr result ↔ IsRefused self.old }
+        ensures spends { Spends 0 self.old self.new result }
+    {
         if self.plan.next().is_none() {
             return Err(self.plan.fail());
         }
         Ok(read_from(self.files.of(area), at, into))
     }
 
-    fn write(&mut self, area: Area, at: u64, bytes: &[u8]) -> Result<(), Failed> {
+    fn write(&mut self, area: Area, at: u64, bytes: &[u8]) -> Result<(), Failed>
+        ensures counts { Counts (disk_view_of self.old) (disk_view_of self.new) result }
+        ensures writes { IsTrue (disk_view_of self.old).honest → Writes area at bytes.now (disk_view_of self.old) (disk_view_of self.new) result }
+        ensures fails { IsErr result ↔ (IsRefused self.old ⊎ (self.old.room.bytes < at + length bytes.now)
+            ⊎ (self.old.left < ROW_BYTES + length bytes.now)) }
+        ensures spends { Spends (ROW_BYTES + length bytes.now) self.old self.new result }
+    {
         let Some(call) = self.plan.next() else {
             return Err(self.plan.fail());
         };
@@ -186,7 +180,13 @@ impl Disk for MemDisk {
         Ok(())
     }
 
-    fn cut(&mut self, area: Area, to: u64) -> Result<(), Failed> {
+    fn cut(&mut self, area: Area, to: u64) -> Result<(), Failed>
+        requires { IsTrue (disk_view_of self.old).honest → to ≤ length ((disk_view_of self.old).reads area) }
+        ensures counts { Counts (disk_view_of self.old) (disk_view_of self.new) result }
+        ensures cuts { IsTrue (disk_view_of self.old).honest → Cuts area to (disk_view_of self.old) (disk_view_of self.new) result }
+        ensures fails { IsErr result ↔ (IsRefused self.old ⊎ (self.old.left < ROW_BYTES)) }
+        ensures spends { Spends ROW_BYTES self.old self.new result }
+    {
         let Some(call) = self.plan.next() else {
             return Err(self.plan.fail());
         };
@@ -198,7 +198,12 @@ impl Disk for MemDisk {
         Ok(())
     }
 
-    fn sync(&mut self, area: Area) -> Result<(), Failed> {
+    fn sync(&mut self, area: Area) -> Result<(), Failed>
+        ensures counts { Counts (disk_view_of self.old) (disk_view_of self.new) result }
+        ensures syncs { IsTrue (disk_view_of self.old).honest → Syncs area (disk_view_of self.old) (disk_view_of self.new) result }
+        ensures fails { IsErr result ↔ (IsRefused self.old ⊎ (self.old.left < ROW_BYTES)) }
+        ensures spends { Spends ROW_BYTES self.old self.new result }
+    {
         let Some(call) = self.plan.next() else {
             return Err(self.plan.fail());
         };
@@ -209,7 +214,12 @@ impl Disk for MemDisk {
         Ok(())
     }
 
-    fn size(&mut self, area: Area) -> Result<u64, Failed> {
+    fn size(&mut self, area: Area) -> Result<u64, Failed>
+        ensures counts { Counts (disk_view_of self.old) (disk_view_of self.new) result }
+        ensures sizes { IsTrue (disk_view_of self.old).honest → Sizes area (disk_view_of self.old) (disk_view_of self.new) result }
+        ensures fails { IsErr result ↔ IsRefused self.old }
+        ensures spends { Spends 0 self.old self.new result }
+    {
         if self.plan.next().is_none() {
             return Err(self.plan.fail());
         }

@@ -32,7 +32,7 @@ pub fn replay_rows(
     keep: u64,
 ) -> Result<(), AllocError>
     requires { RowsHaveBytes payload.now rows.now }
-    ensures { OnOk result (files.new ≡ kept keep (map (step_in payload.now) rows.now) files.old) }
+    ensures { OnOk result (files.new ≡ record files.old { all = kept keep (map (step_in payload.now) rows.now) files.old.all }) }
 {
     let syncs = last_syncs(rows);
     let mut left = keep;
@@ -108,11 +108,18 @@ fn replay_row(
 ) -> Result<u64, AllocError>
     requires { HasBytes payload.now row.kind }
     ensures left { IfOk result (λ left. left ≡ left_after is_whole keep (step_in payload.now row)) }
-    ensures files { OnOk result (files.new ≡ replayed is_whole keep (step_in payload.now row) files.old) }
+    ensures files { OnOk result (files.new ≡ record files.old { all = replayed is_whole keep (step_in payload.now row) files.old.all }) }
 {
     match row.kind {
         Kind::Write { at, from, len } => {
-            replay_write(row.area, at, &payload[from..from + len], files, is_whole, keep)
+            replay_write(
+                row.area,
+                at,
+                &payload[from..from + len],
+                files,
+                is_whole,
+                keep,
+            )
         }
         Kind::Cut { to } => Ok(replay_cut(row.area, to, files, is_whole, keep)),
         Kind::Sync => Ok(keep),
@@ -129,8 +136,10 @@ fn replay_write(
 ) -> Result<u64, AllocError>
     requires { at + length bytes.now < 2 ^ 64 }
     ensures left { IfOk result (λ left. left ≡ (if is_whole then keep else keep - length bytes.now)) }
-    ensures files { OnOk result (files.new
-        ≡ with_content area (overlay at (if is_whole then bytes.now else take keep bytes.now) (content_of files.old area)) files.old) }
+    ensures files { OnOk result (files.new ≡ record files.old {
+      all = with_content area
+          (overlay at (if is_whole then bytes.now else take keep bytes.now) (content_of files.old.all area)) files.old.all;
+    }) }
 {
     if is_whole {
         files.overlay(area, at, bytes)?;
@@ -143,8 +152,11 @@ fn replay_write(
 
 fn replay_cut(area: Area, to: usize, files: &mut Files, is_whole: bool, keep: u64) -> u64
     ensures left { result ≡ (if is_whole then keep else keep - 1) }
-    ensures files { files.new ≡ with_content area
-        (if is_whole then take to (content_of files.old area) else partly keep (cut_to to) (content_of files.old area)) files.old }
+    ensures files { files.new ≡ record files.old {
+      all = with_content area
+          (if is_whole then take to (content_of files.old.all area) else partly keep (cut_to to) (content_of files.old.all area))
+          files.old.all;
+    } }
 {
     if is_whole {
         files.cut(area, to);

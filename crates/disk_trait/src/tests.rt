@@ -1,6 +1,7 @@
 //! A disk in memory, crashed and failing at every call.
 use crate::{Area, Disk, FuseDisk, MemDisk, Room};
-use outside_traits::Failed;
+use outside_traits::{Failed, Memory};
+use std::alloc::Global;
 use std::test::Fail;
 
 const ROOM: Room = Room {
@@ -67,48 +68,86 @@ fn a_fuse_passes_so_many_calls(rt: HostRuntime) -> Result<(), Fail> {
     Ok(())
 }
 
-// Moment, bytes kept, and what the first two areas have then. The last three moments are after the read, the size and
-// the cut.
-const IMAGES: [(u64, u64, &[u8], &[u8]); 18] = [
-    (0, 9, &[], &[]),
-    (1, 0, &[], &[]),
-    (1, 2, &[1, 2], &[]),
-    (1, 4, &[1, 2, 3, 4], &[]),
-    (2, 0, &[1, 2, 3, 4], &[]),
-    (3, 0, &[1, 2, 3, 4], &[]),
-    (3, 1, &[1, 2, 7, 4], &[]),
-    (3, 3, &[1, 2, 7, 8, 9], &[]),
-    (4, 0, &[1, 2, 3, 4], &[]),
-    (4, 2, &[1, 2, 7, 8], &[]),
-    (4, 3, &[1, 2, 7, 8, 9], &[]),
-    (4, 4, &[1, 2, 7, 8, 9], &[0, 5]),
-    (6, 4, &[1, 2, 7, 8, 9], &[0, 5]),
-    (7, 4, &[1, 2, 7, 8, 9], &[0, 5]),
-    (7, 5, &[1], &[0, 5]),
-    (8, 0, &[1], &[]),
-    (8, 1, &[1], &[0, 5]),
-    (8, 9, &[1], &[0, 5]),
-];
+// The disk that a crash leaves. A moment that isn't there yet is taken for want of memory.
+fn crashed(alloc: Global, disk: &MemDisk, moment: u64, keep: u64) -> Result<MemDisk, Memory> {
+    if moment > disk.calls() {
+        return Err(Memory);
+    }
+    disk.crash(alloc, moment, keep)
+}
 
+fn reads_as(disk: &mut MemDisk, area: Area, want: &[u8]) -> bool {
+    let mut into = [0; 8];
+    match disk.read(area, 0, &mut into) {
+        Ok(n) => &into[..n] == want,
+        Err(_) => false,
+    }
+}
+
+// Whether a crash at this moment that keeps so many bytes leaves this of the first two areas.
+fn leaves(
+    alloc: Global,
+    disk: &MemDisk,
+    moment: u64,
+    keep: u64,
+    oplog: &[u8],
+    tree: &[u8],
+) -> bool {
+    match crashed(alloc, disk, moment, keep) {
+        Ok(mut left) => {
+            reads_as(&mut left, Area::Oplog, oplog) && reads_as(&mut left, Area::Tree, tree)
+        }
+        Err(_) => false,
+    }
+}
+
+// The read and the size are moments too: the calls that write are 0, 2, 3 and 6, and those that sync 1 and 7.
 #[test]
 fn a_crash_keeps_the_first_bytes_that_are_not_synced(rt: HostRuntime) -> Result<(), Fail> {
     let alloc = rt.alloc();
     let mut disk = MemDisk::new(alloc, &ROOM)?;
     let _ = write_all(&mut disk);
-    disk.sync(Area::Oplog)?;
-    for (moment, keep, oplog, tree) in IMAGES {
-        if moment > disk.calls() {
-            continue;
-        }
-        let mut left = disk.crash(alloc, moment, keep)?;
-        let mut into = [0; 8];
-        let n = left.read(Area::Oplog, 0, &mut into)?;
-        assert_eq!(rt; &into[..n], oplog, "oplog at {moment}, {keep} kept");
-        let n = left.read(Area::Tree, 0, &mut into)?;
-        assert_eq!(rt; &into[..n], tree, "tree at {moment}, {keep} kept");
-    }
-    assert_eq!(rt; disk.calls(), 8);
+    let _ = syncs(&mut disk, Area::Oplog);
+    assert!(rt; leaves(alloc, &disk, 0, 9, &[], &[]), "at first");
+    assert!(rt; leaves(alloc, &disk, 1, 0, &[], &[]), "1, none");
+    assert!(rt; leaves(alloc, &disk, 1, 2, &[1, 2], &[]), "1, half");
+    assert!(rt; leaves(alloc, &disk, 1, 4, &[1, 2, 3, 4], &[]), "1, all");
+    assert!(rt; leaves(alloc, &disk, 2, 0, &[1, 2, 3, 4], &[]), "2, none");
+    assert!(rt; leaves(alloc, &disk, 3, 0, &[1, 2, 3, 4], &[]), "3, none");
+    assert!(rt; leaves(alloc, &disk, 3, 1, &[1, 2, 7, 4], &[]), "3, half");
+    assert!(rt; leaves(alloc, &disk, 3, 3, &[1, 2, 7, 8, 9], &[]), "3, all");
     Ok(())
+}
+
+#[test]
+fn a_crash_keeps_areas_and_cuts_in_order(rt: HostRuntime) -> Result<(), Fail> {
+    let alloc = rt.alloc();
+    let mut disk = MemDisk::new(alloc, &ROOM)?;
+    let _ = write_all(&mut disk);
+    let _ = syncs(&mut disk, Area::Oplog);
+    assert!(rt; leaves(alloc, &disk, 4, 0, &[1, 2, 3, 4], &[]), "4, none");
+    assert!(rt; leaves(alloc, &disk, 4, 2, &[1, 2, 7, 8], &[]), "4, half");
+    assert!(rt;
+        leaves(alloc, &disk, 6, 4, &[1, 2, 7, 8, 9], &[0, 5]),
+        "6, all"
+    );
+    assert!(rt;
+        leaves(alloc, &disk, 7, 4, &[1, 2, 7, 8, 9], &[0, 5]),
+        "7, all but the cut"
+    );
+    assert!(rt; leaves(alloc, &disk, 7, 5, &[1], &[0, 5]), "7, all");
+    assert!(rt; leaves(alloc, &disk, 8, 0, &[1], &[]), "8, none");
+    assert!(rt; leaves(alloc, &disk, 8, 1, &[1], &[0, 5]), "8, all");
+    assert!(rt; !leaves(alloc, &disk, 9, 0, &[1], &[]), "no such moment");
+    Ok(())
+}
+
+fn writes(disk: &mut MemDisk, area: Area, at: u64, bytes: &[u8]) -> bool {
+    disk.write(area, at, bytes).is_ok()
+}
+
+fn syncs(disk: &mut MemDisk, area: Area) -> bool {
+    disk.sync(area).is_ok()
 }
 
 #[test]
@@ -119,12 +158,24 @@ fn what_passes_the_room_fails(rt: HostRuntime) -> Result<(), Fail> {
         journal: 32 + 4 + 32,
     };
     let mut disk = MemDisk::new(alloc, &room)?;
-    assert!(rt; disk.write(Area::Tree, 1, &[1, 2, 3, 4]).is_err());
-    assert!(rt; disk.write(Area::Tree, u64::MAX, &[1]).is_err());
-    assert!(rt; disk.write(Area::Tree, 0, &[1, 2, 3, 4]).is_ok());
-    assert!(rt; disk.write(Area::Oplog, 0, &[1]).is_err());
-    assert!(rt; disk.sync(Area::Tree).is_ok());
-    assert!(rt; disk.sync(Area::Tree).is_err());
+    assert!(rt;
+        !writes(&mut disk, Area::Tree, 1, &[1, 2, 3, 4]),
+        "past the room"
+    );
+    assert!(rt;
+        !writes(&mut disk, Area::Tree, u64::MAX, &[1]),
+        "past the last place"
+    );
+    assert!(rt;
+        writes(&mut disk, Area::Tree, 0, &[1, 2, 3, 4]),
+        "all the room"
+    );
+    assert!(rt;
+        !writes(&mut disk, Area::Oplog, 0, &[1]),
+        "past the journal's room"
+    );
+    assert!(rt; syncs(&mut disk, Area::Tree), "all the journal's room");
+    assert!(rt; !syncs(&mut disk, Area::Tree), "past the journal's room");
     assert_eq!(rt; disk.faults(), 4);
     Ok(())
 }

@@ -76,28 +76,27 @@ fn crashed(alloc: Global, disk: &MemDisk, moment: u64, keep: u64) -> Result<MemD
     disk.crash(alloc, moment, keep)
 }
 
-fn reads_as(disk: &mut MemDisk, area: Area, want: &[u8]) -> bool {
+// The bytes of an area as the digits of a number behind a 9.
+fn digits(disk: &mut MemDisk, area: Area) -> u64 {
     let mut into = [0; 8];
-    match disk.read(area, 0, &mut into) {
-        Ok(n) => &into[..n] == want,
-        Err(_) => false,
+    let Ok(n) = disk.read(area, 0, &mut into) else {
+        return 0;
+    };
+    let mut number: u64 = 9;
+    for byte in &into[..n] {
+        number = number.wrapping_mul(10).wrapping_add(*byte as u64);
     }
+    number
 }
 
-// Whether a crash at this moment that keeps so many bytes leaves this of the first two areas.
-fn leaves(
-    alloc: Global,
-    disk: &MemDisk,
-    moment: u64,
-    keep: u64,
-    oplog: &[u8],
-    tree: &[u8],
-) -> bool {
+// What a crash at this moment that keeps so many bytes leaves of the first two areas.
+fn left_by(alloc: Global, disk: &MemDisk, moment: u64, keep: u64) -> (u64, u64) {
     match crashed(alloc, disk, moment, keep) {
-        Ok(mut left) => {
-            reads_as(&mut left, Area::Oplog, oplog) && reads_as(&mut left, Area::Tree, tree)
-        }
-        Err(_) => false,
+        Ok(mut left) => (
+            digits(&mut left, Area::Oplog),
+            digits(&mut left, Area::Tree),
+        ),
+        Err(_) => (0, 0),
     }
 }
 
@@ -108,37 +107,28 @@ fn a_crash_keeps_the_first_bytes_that_are_not_synced(rt: HostRuntime) -> Result<
     let mut disk = MemDisk::new(alloc, &ROOM)?;
     let _ = write_all(&mut disk);
     let _ = syncs(&mut disk, Area::Oplog);
-    assert!(rt; leaves(alloc, &disk, 0, 9, &[], &[]), "at first");
-    assert!(rt; leaves(alloc, &disk, 1, 0, &[], &[]), "1, none");
-    assert!(rt; leaves(alloc, &disk, 1, 2, &[1, 2], &[]), "1, half");
-    assert!(rt; leaves(alloc, &disk, 1, 4, &[1, 2, 3, 4], &[]), "1, all");
-    assert!(rt; leaves(alloc, &disk, 2, 0, &[1, 2, 3, 4], &[]), "2, none");
-    assert!(rt; leaves(alloc, &disk, 3, 0, &[1, 2, 3, 4], &[]), "3, none");
-    assert!(rt; leaves(alloc, &disk, 3, 1, &[1, 2, 7, 4], &[]), "3, half");
-    assert!(rt; leaves(alloc, &disk, 3, 3, &[1, 2, 7, 8, 9], &[]), "3, all");
-    Ok(())
-}
-
-#[test]
-fn a_crash_keeps_areas_and_cuts_in_order(rt: HostRuntime) -> Result<(), Fail> {
-    let alloc = rt.alloc();
-    let mut disk = MemDisk::new(alloc, &ROOM)?;
-    let _ = write_all(&mut disk);
-    let _ = syncs(&mut disk, Area::Oplog);
-    assert!(rt; leaves(alloc, &disk, 4, 0, &[1, 2, 3, 4], &[]), "4, none");
-    assert!(rt; leaves(alloc, &disk, 4, 2, &[1, 2, 7, 8], &[]), "4, half");
-    assert!(rt;
-        leaves(alloc, &disk, 6, 4, &[1, 2, 7, 8, 9], &[0, 5]),
-        "6, all"
-    );
-    assert!(rt;
-        leaves(alloc, &disk, 7, 4, &[1, 2, 7, 8, 9], &[0, 5]),
-        "7, all but the cut"
-    );
-    assert!(rt; leaves(alloc, &disk, 7, 5, &[1], &[0, 5]), "7, all");
-    assert!(rt; leaves(alloc, &disk, 8, 0, &[1], &[]), "8, none");
-    assert!(rt; leaves(alloc, &disk, 8, 1, &[1], &[0, 5]), "8, all");
-    assert!(rt; !leaves(alloc, &disk, 9, 0, &[1], &[]), "no such moment");
+    for (moment, keep, oplog, tree) in [
+        (0, 9, 9, 9),
+        (1, 0, 9, 9),
+        (1, 2, 912, 9),
+        (1, 4, 91234, 9),
+        (2, 0, 91234, 9),
+        (3, 0, 91234, 9),
+        (3, 1, 91274, 9),
+        (3, 3, 912789, 9),
+        (4, 0, 91234, 9),
+        (4, 2, 91278, 9),
+        (6, 4, 912789, 905),
+        (7, 4, 912789, 905),
+        (7, 5, 91, 905),
+        (8, 0, 91, 9),
+        (8, 1, 91, 905),
+        (9, 0, 0, 0),
+    ] {
+        let left = left_by(alloc, &disk, moment, keep);
+        assert_eq!(rt; left.0, oplog, "oplog at {moment}, {keep} kept");
+        assert_eq!(rt; left.1, tree, "tree at {moment}, {keep} kept");
+    }
     Ok(())
 }
 

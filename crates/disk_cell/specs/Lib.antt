@@ -1,0 +1,3 @@
+pub mod Cell
+pub use Rattle.disk_trait.specs.Disk
+pub use Rattle.disk_trait.specs.Runs

@@ -1,0 +1,9 @@
+pub mod Contents
+pub mod Crash
+pub mod Disk
+pub mod Fuse
+pub mod History
+pub mod Journal
+pub mod Overlays
+pub mod Runs
+pub mod Stays

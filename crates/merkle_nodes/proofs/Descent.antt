@@ -1,5 +1,5 @@
 -- Down a path from an equal top: at each step the inputs are equal, or they clash.
-use Rattle.std.proofs.Common.{◌≡◌, ℕ, zero, suc, ◌+◌, ◌*◌, ◌/◌, ◌%◌, ◌^◌, ◌≤◌, ◌⊎◌, inl, inr, List, [], ◌∷◌, ◌++◌, length, take, refl, sym, ap, ◌∙◌, arith}
+use Rattle.std.proofs.Common.{◌≡◌, ℕ, zero, suc, ◌+◌, ◌*◌, ◌/◌, ◌%◌, ◌^◌, ◌≤◌, ◌==◌, if◌then◌else◌, ◌⊎◌, inl, inr, Bool, true, false, List, [], ◌∷◌, ◌++◌, length, take, refl, sym, ap, ◌∙◌, arith}
 use Rattle.std.specs.List.{AllByRecursion}
 use Rattle.std.proofs.lemmas.Bool.{cases_eq, eq-eqb}
 use Rattle.std.proofs.lemmas.List.{get_or-take}
@@ -71,47 +71,49 @@ parent_split l r m s wl wr wm ws same =
     (ap (λ (k : ℕ). suc (suc (suc (suc (suc (suc (suc (suc (suc k))))))))) (wl ∙ sym wm)) same in
     ((split_same (1 ∷ u64_bytes (l.size + r.size)) (1 ∷ u64_bytes (m.size + s.size)) l.hash m.hash refl both.0).1, both.1)
 
-join-right : (offset : ℕ) (node sibling : Twig) → offset % 2 ≡ 1 → (join offset node sibling ≡ parent_of sibling node) × (join_input offset node sibling ≡ parent_input sibling node)
-join-right offset node sibling right = let yes = eq-eqb (offset % 2) 1 right in (rw yes refl, rw yes refl)
+join-hash : (offset : ℕ) (node sibling : Twig) → (join offset node sibling).hash ≡ hash_of (join_input offset node sibling)
+join-hash offset node sibling =
+    elim (offset % 2 == 1) as (λ (b : Bool). (if b then parent_of sibling node else parent_of node sibling).hash
+    ≡ hash_of (if b then parent_input sibling node else parent_input node sibling)) [
+      | true ↦ refl
+      | false ↦ refl
+    ]
 
-join-left : (offset : ℕ) (node sibling : Twig) → offset % 2 ≡ 0 → (join offset node sibling ≡ parent_of node sibling) × (join_input offset node sibling ≡ parent_input node sibling)
-join-left offset node sibling left = (rw left refl, rw left refl)
+-- where the inputs are equal, so is the node's half
+own_half : (log : List (List ℕ)) (depth offset : ℕ) (node sibling : Twig) → HasHash node → HasHash sibling
+    → parent_input (tree_of log depth (2 * (offset / 2))) (tree_of log depth (2 * (offset / 2) + 1)) ≡ join_input offset node sibling
+    → node.hash ≡ (tree_of log depth offset).hash
+own_half log depth offset node sibling wide wide_sibling same =
+    let place = 2 * (offset / 2) in
+    let first = tree_of log depth place in
+    let second = tree_of log depth (place + 1) in
+    let split = λ (l r : Twig) (wl : HasHash l) (wr : HasHash r). parent_split first second l r (tree_has_hash log depth place) (tree_has_hash log depth (place + 1)) wl wr in
+    elim (cases_eq (offset % 2) 1) [
+      | inl right ↦
+          let is : place + 1 ≡ offset = omega (arith, right) in
+          let input : join_input offset node sibling ≡ parent_input sibling node = rw (eq-eqb (offset % 2) 1 right) refl in
+          sym (split sibling node wide_sibling wide (same ∙ input)).1 ∙ ap (λ (o : ℕ). (tree_of log depth o).hash) is
+      | inr left ↦
+          let none : offset % 2 ≡ 0 = omega (arith, left) in
+          let is : place ≡ offset = omega (arith, none) in
+          let input : join_input offset node sibling ≡ parent_input node sibling = rw none refl in
+          sym (split node sibling wide wide_sibling (same ∙ input)).0 ∙ ap (λ (o : ℕ). (tree_of log depth o).hash) is
+    ]
 
 -- one step down
-step_down : (log : List (List ℕ)) (depth offset : ℕ) (node sibling : Twig) (others : List (List ℕ)) → HasHash node → HasHash sibling → end_block_of (suc depth) (offset / 2) ≤ length log
+step_down : (log : List (List ℕ)) (depth offset : ℕ) (node sibling : Twig) (others : List (List ℕ)) → HasHash node → HasHash sibling
+    → end_block_of (suc depth) (offset / 2) ≤ length log
     → (join offset node sibling).hash ≡ (tree_of log (suc depth) (offset / 2)).hash
     → (node.hash ≡ (tree_of log depth offset).hash) ⊎ Clash (inputs_of log) (join_input offset node sibling ∷ others)
 unfolding tree_of
 step_down log depth offset node sibling others wide wide_sibling inside same =
-    let first = tree_of log depth (2 * (offset / 2)) in
-    let second = tree_of log depth (2 * (offset / 2) + 1) in
-    let wide_first = tree_has_hash log depth (2 * (offset / 2)) in
-    let wide_second = tree_has_hash log depth (2 * (offset / 2) + 1) in
+    let input = join_input offset node sibling in
     let here = parent_in log depth (offset / 2) inside in
-    elim (cases_eq (offset % 2) 1) [
-      | inl odd ↦
-          let is : offset ≡ 2 * (offset / 2) + 1 = omega (arith, odd) in
-          let right = join-right offset node sibling odd in
-          let equal : hash_of (parent_input first second) ≡ hash_of (join_input offset node sibling) = sym same ∙ ap (λ (t : Twig). t.hash) right.0 ∙ ap hash_of (sym right.1) in
-          elim (same_or_clash (inputs_of log) (join_input offset node sibling ∷ others) (parent_input first second) (join_input offset node sibling) here (Contains-first _ others) equal) [
-            | inr clash ↦ inr clash
-            | inl one ↦ inl (sym (parent_split first second sibling node wide_first wide_second wide_sibling wide (one ∙ right.1)).1 ∙ ap (λ (o : ℕ). (tree_of log depth o).hash) (sym is))
-          ]
-      | inr even ↦
-          let is : offset ≡ 2 * (offset / 2) = omega (arith, even) in
-          let left = join-left offset node sibling (omega (arith, even)) in
-          let equal : hash_of (parent_input first second) ≡ hash_of (join_input offset node sibling) = sym same ∙ ap (λ (t : Twig). t.hash) left.0 ∙ ap hash_of (sym left.1) in
-          elim (same_or_clash (inputs_of log) (join_input offset node sibling ∷ others) (parent_input first second) (join_input offset node sibling) here (Contains-first _ others) equal) [
-            | inr clash ↦ inr clash
-            | inl one ↦ inl (sym (parent_split first second node sibling wide_first wide_second wide wide_sibling (one ∙ left.1)).0 ∙ ap (λ (o : ℕ). (tree_of log depth o).hash) (sym is))
-          ]
+    let equal = sym same ∙ join-hash offset node sibling in
+    elim (same_or_clash (inputs_of log) (input ∷ others) _ input here (Contains-first input others) equal) [
+      | inr clash ↦ inr clash
+      | inl one ↦ inl (own_half log depth offset node sibling wide wide_sibling one)
     ]
-
-join_has_hash : (offset : ℕ) (node sibling : Twig) → HasHash (join offset node sibling)
-join_has_hash offset node sibling = elim (cases_eq (offset % 2) 1) [
-  | inl odd ↦ rw (join-right offset node sibling odd).0 (length_hash_of _)
-  | inr even ↦ rw (join-left offset node sibling (omega (arith, even))).0 (length_hash_of _)
-]
 
 -- all the way down
 pub descend : (log : List (List ℕ)) (depth offset : ℕ) (node : Twig) (trail : List Twig) → HasHash node → AllByRecursion HasHash trail
@@ -122,7 +124,7 @@ unfolding fold_from offset_above fold_inputs
 descend log depth offset node [] wide fits inside same = inl same
 descend log depth offset node (sibling ∷ trail) wide fits inside same =
     let parent = join offset node sibling in
-    elim (descend log (suc depth) (offset / 2) parent trail (join_has_hash offset node sibling) fits.1 inside same) [
+    elim (descend log (suc depth) (offset / 2) parent trail (ap length (join-hash offset node sibling) ∙ length_hash_of _) fits.1 inside same) [
       | inr clash ↦ inr (clash_later _ _ (join_input offset node sibling) clash)
       | inl up ↦ step_down log depth offset node sibling (fold_inputs (offset / 2) parent trail) wide fits.0 (below_within (suc depth) (offset / 2) trail (length log) inside) up
     ]

@@ -1,5 +1,5 @@
 -- Whoever made an answer, its block is that of each log under its roots, or two different inputs of equal hash are in hand.
-use Rattle.std.proofs.Common.{◌≡◌, ℕ, zero, suc, ◌/◌, ◌^◌, ◌<◌, ◌≤◌, ◌⊎◌, inl, inr, List, [], ◌∷◌, ◌++◌, length, get_or, take, drop, option_map, map, slice_get, Some, refl, sym, ap, subst, ◌∙◌, arith, length-append}
+use Rattle.std.proofs.Common.{◌≡◌, ℕ, zero, suc, ◌/◌, ◌^◌, ◌<◌, ◌≤◌, inl, inr, List, [], ◌∷◌, ◌++◌, length, get_or, take, drop, option_map, map, slice_get, Some, refl, sym, ap, subst, ◌∙◌, arith, length-append}
 use Rattle.std.specs.Prelude.{Bool, Result, Ok, Err, IfOk}
 use Rattle.std.specs.List.{flat_map, AllByRecursion}
 use Rattle.std.proofs.lemmas.List.{length-take-le}
@@ -20,7 +20,7 @@ use Rattle.merkle_nodes.specs.declared.check.Opened.{Opened}
 use Rattle.merkle_nodes.specs.declared.check.BundleFault.{BundleFault}
 use Rattle.merkle_nodes.specs.Check.{Checks, OpensSigned, block_at}
 use Rattle.merkle_nodes.specs.Roots.{Accepts}
-use Rattle.merkle_nodes.specs.Sound.{IsBlockUnder, inputs_of, fold_inputs, path_inputs, Clash, HasHash, HasRootHash, IsSound}
+use Rattle.merkle_nodes.specs.Sound.{IsBlockUnder, IsBlockOrClash, inputs_of, fold_inputs, path_inputs, HasHash, HasRootHash, IsSound}
 use Rattle.merkle_nodes.proofs.Inputs.{Contains-first, Contains-later, leaf_in, roots_in, same_or_clash, clash_later, split_same}
 use Rattle.merkle_nodes.proofs.Descent.{tree_has_hash, tree_of-take, depth_above, depth_above-length, offset_above-length, descend}
 
@@ -53,63 +53,72 @@ roots_have_hashes log (tree ∷ trees) = (tree_has_hash log tree.depth tree.offs
 
 -- the root over a block, in the roots of a log and as its tree
 log_root : (log : List (List ℕ)) (index depth : ℕ) → index < length log → depth_over (length log) index ≡ depth
-    → (slice_get (roots_of log) (place_over (length log) index) ≡ Some (node_of depth (index / 2 ^ depth) (tree_of log depth (index / 2 ^ depth))))
+    → (slice_get (roots_of log) (place_over (length log) index)
+    ≡ Some (node_of depth (index / 2 ^ depth) (tree_of log depth (index / 2 ^ depth))))
     × (end_block_of depth (index / 2 ^ depth) ≤ length log)
 log_root log index depth less deep =
     let trees = full_roots_of (length log) in
     let place = place_over (length log) index in
-    let there : slice_get trees place ≡ Some (subtree depth (index / 2 ^ depth)) = subst (λ (d : ℕ). slice_get trees place ≡ Some (subtree d (index / 2 ^ d))) deep (root-over (length log) index less) in
+    let over = λ (d : ℕ). subtree d (index / 2 ^ d) in
+    let there : slice_get trees place ≡ Some (over depth) =
+    subst (λ (d : ℕ). slice_get trees place ≡ Some (over d)) deep (root-over (length log) index less) in
     let node = λ (tree : Subtree). node_of tree.depth tree.offset (tree_of log tree.depth tree.offset) in
-    (slice_get-map node trees place ∙ ap (option_map node) there, (tile-get trees 0 (length log) (tile-full (length log)) place (subtree depth (index / 2 ^ depth)) there).1)
+    let within = tile-get trees 0 (length log) (tile-full (length log)) place (over depth) there in
+    (slice_get-map node trees place ∙ ap (option_map node) there, within.1)
 
--- the last step: the leaf
-leaf_step : (log : List (List ℕ)) (index : ℕ) (block : List ℕ) (roots : List Node) (trail : List Twig) → index < length log
-    → (leaf_of block).hash ≡ (tree_of log 0 index).hash → (slice_get log index ≡ Some block) ⊎ Clash (inputs_of log) (path_inputs roots index block trail)
-unfolding tree_of
-leaf_step log index block roots trail less same =
-    let own = get_or log index [] in
-    let here = Contains-later (root_input roots) (leaf_input block) (leaf_input block ∷ fold_inputs index (leaf_of block) trail) (Contains-first (leaf_input block) (fold_inputs index (leaf_of block) trail)) in
-    elim (same_or_clash (inputs_of log) (path_inputs roots index block trail) (leaf_input own) (leaf_input block) (leaf_in log index less) here (sym same)) [
-      | inr clash ↦ inr clash
-      | inl one ↦ inl (slice_get-get_or log index [] less ∙ ap Some (split_same (0 ∷ u64_bytes (length own)) (0 ∷ u64_bytes (length block)) own block refl one).1)
-    ]
+module _ (log : List (List ℕ)) (roots : List Node) (index : ℕ) (block : List ℕ) (trail : List Twig) where
+  -- the last step: the leaf
+  leaf_step : index < length log → (leaf_of block).hash ≡ (tree_of log 0 index).hash → IsBlockOrClash log roots index block trail
+  unfolding tree_of
+  leaf_step less same =
+      let own = get_or log index [] in
+      let ways = fold_inputs index (leaf_of block) trail in
+      let here = Contains-later (root_input roots) (leaf_input block) (leaf_input block ∷ ways) (Contains-first (leaf_input block) ways) in
+      elim (same_or_clash (inputs_of log) (path_inputs roots index block trail) (leaf_input own) (leaf_input block) (leaf_in log index less) here (sym same)) [
+        | inr clash ↦ inr clash
+        | inl one ↦
+            let parts = split_same (0 ∷ u64_bytes (length own)) (0 ∷ u64_bytes (length block)) own block refl one in
+            inl (slice_get-get_or log index [] less ∙ ap Some parts.1)
+      ]
 
--- from the root over the block down to it
-from_root : (log : List (List ℕ)) (roots : List Node) (blocks index : ℕ) (block : List ℕ) (trail : List Twig) → AllByRecursion HasHash trail → index < blocks → blocks ≤ length log
-    → length trail ≡ depth_over blocks index → end_block_of (length trail) (index / 2 ^ length trail) ≤ blocks
-    → (fold index block trail).hash ≡ (tree_of log (length trail) (index / 2 ^ length trail)).hash
-    → (slice_get log index ≡ Some block) ⊎ Clash (inputs_of log) (path_inputs roots index block trail)
-from_root log roots blocks index block trail wide less long path inside same =
-    let depth : length trail ≡ depth_above 0 trail = sym (depth_above-length 0 trail ∙ omega arith) in
-    let offset : index / 2 ^ length trail ≡ offset_above index trail = sym (offset_above-length index trail) in
-    let within : end_block_of (depth_above 0 trail) (offset_above index trail) ≤ length log = rw (← depth, ← offset) (omega (arith, inside, long)) in
-    let top : (fold index block trail).hash ≡ (tree_of log (depth_above 0 trail) (offset_above index trail)).hash = rw (← depth, ← offset) same in
-    elim (descend log 0 index (leaf_of block) trail (length_hash_of _) wide within top) [
-      | inr clash ↦ inr (clash_later _ _ (root_input roots) (clash_later _ _ (leaf_input block) clash))
-      | inl leaf ↦ leaf_step log index block roots trail (omega (arith, less, long)) leaf
-    ]
+  -- from the root over the block down to it
+  from_root : AllByRecursion HasHash trail → index < length log → end_block_of (length trail) (index / 2 ^ length trail) ≤ length log
+      → (fold index block trail).hash ≡ (tree_of log (length trail) (index / 2 ^ length trail)).hash → IsBlockOrClash log roots index block trail
+  from_root wide less inside same =
+      let depth : length trail ≡ depth_above 0 trail = sym (depth_above-length 0 trail ∙ omega arith) in
+      let offset : index / 2 ^ length trail ≡ offset_above index trail = sym (offset_above-length index trail) in
+      let within : end_block_of (depth_above 0 trail) (offset_above index trail) ≤ length log = rw (← depth, ← offset) inside in
+      let top : (fold index block trail).hash ≡ (tree_of log (depth_above 0 trail) (offset_above index trail)).hash = rw (← depth, ← offset) same in
+      elim (descend log 0 index (leaf_of block) trail (length_hash_of _) wide within top) [
+        | inr clash ↦ inr (clash_later _ _ (root_input roots) (clash_later _ _ (leaf_input block) clash))
+        | inl leaf ↦ leaf_step less leaf
+      ]
 
--- the roots of the log's first blocks, and of the answer
-from_roots : (log : List (List ℕ)) (roots : List Node) (blocks index : ℕ) (block : List ℕ) (trail : List Twig) → AllByRecursion HasRootHash roots → AllByRecursion HasHash trail
-    → Proves blocks roots index block trail → blocks ≤ length log → length (take blocks log) ≡ blocks → root_input (roots_of (take blocks log)) ≡ root_input roots
-    → (slice_get log index ≡ Some block) ⊎ Clash (inputs_of log) (path_inputs roots index block trail)
-from_roots log roots blocks index block trail wide_roots wide proved long count same =
-    let first = take blocks log in
-    let depth = length trail in
-    let deep : depth_over (length first) index ≡ depth = ap (λ (n : ℕ). depth_over n index) count ∙ sym proved.path in
-    let own = log_root first index depth (rw count proved.within) deep in
-    let place = ap (λ (n : ℕ). slice_get (roots_of first) (place_over n index)) (sym count) ∙ own.0 in
-    let equal = roots_same (roots_of first) roots (roots_have_hashes first (full_roots_of (length first))) wide_roots (ap (drop 1) same) (place_over blocks index) _ proved.root place proved.over in
-    let inside : end_block_of depth (index / 2 ^ depth) ≤ blocks = omega (arith, own.1, count) in
-    from_root log roots blocks index block trail wide proved.within long proved.path inside
-    (ap (λ (t : Twig). t.hash) proved.folds ∙ sym equal ∙ ap (λ (t : Twig). t.hash) (tree_of-take log blocks depth (index / 2 ^ depth) inside))
+  -- from equal inputs of the log's first roots and the answer's
+  from_roots : (blocks : ℕ) → AllByRecursion HasRootHash roots → AllByRecursion HasHash trail → Proves blocks roots index block trail
+      → blocks ≤ length log → length (take blocks log) ≡ blocks → root_input (roots_of (take blocks log)) ≡ root_input roots
+      → IsBlockOrClash log roots index block trail
+  from_roots blocks wide_roots wide proved long count same =
+      let first = take blocks log in
+      let depth = length trail in
+      let offset = index / 2 ^ depth in
+      let deep : depth_over (length first) index ≡ depth = ap (λ (n : ℕ). depth_over n index) count ∙ sym proved.path in
+      let own = log_root first index depth (rw count proved.within) deep in
+      let place = ap (λ (n : ℕ). slice_get (roots_of first) (place_over n index)) (sym count) ∙ own.0 in
+      let wide_first = roots_have_hashes first (full_roots_of (length first)) in
+      let equal = roots_same (roots_of first) roots wide_first wide_roots (ap (drop 1) same) (place_over blocks index) _ proved.root place proved.over in
+      let inside : end_block_of depth offset ≤ blocks = omega (arith, own.1, count) in
+      let hash = λ (t : Twig). t.hash in
+      from_root wide (omega (arith, proved.within, long)) (omega (arith, inside, long))
+      (ap hash proved.folds ∙ sym equal ∙ ap hash (tree_of-take log blocks depth offset inside))
 
 -- the theorem
 pub sound : (roots : List Node) (blocks index : ℕ) (block : List ℕ) (trail : List Twig) → IsSound roots blocks index block trail
 sound roots blocks index block trail wide_roots wide proved log is =
-    elim (same_or_clash (inputs_of log) (path_inputs roots index block trail) (root_input (roots_of (take blocks log))) (root_input roots) (roots_in log blocks is.long) (Contains-first (root_input roots) (leaf_input block ∷ fold_inputs index (leaf_of block) trail)) is.root_hash) [
+    let first = Contains-first (root_input roots) (leaf_input block ∷ fold_inputs index (leaf_of block) trail) in
+    elim (same_or_clash (inputs_of log) (path_inputs roots index block trail) _ (root_input roots) (roots_in log blocks is.long) first is.root_hash) [
       | inr clash ↦ inr clash
-      | inl same ↦ from_roots log roots blocks index block trail wide_roots wide proved is.long (length-take-le blocks log is.long) same
+      | inl same ↦ from_roots log roots index block trail blocks wide_roots wide proved is.long (length-take-le blocks log is.long) same
     ]
 
 -- ---- a bundle that was opened

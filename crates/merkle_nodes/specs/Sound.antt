@@ -52,10 +52,13 @@ pub record IsLogUnder (roots : List Node) (blocks : ℕ) (log : List (List ℕ))
   pub long : blocks ≤ length log
   pub root_hash : root_hash_of (roots_of (take blocks log)) ≡ root_hash_of roots
 
--- the block is the one at the index of each log under the roots, or two different inputs of equal hash are in hand
+-- the block is the log's at the index, or two different inputs of equal hash are in hand
+abbrev pub IsBlockOrClash : List (List ℕ) → List Node → ℕ → List ℕ → List Twig → Type 0
+IsBlockOrClash log roots index block trail = (slice_get log index ≡ Some block) ⊎ Clash (inputs_of log) (path_inputs roots index block trail)
+
+-- so it is of each log under the roots
 abbrev pub IsBlockUnder : List Node → ℕ → ℕ → List ℕ → List Twig → Type 0
-IsBlockUnder roots blocks index block trail = (log : List (List ℕ)) → IsLogUnder roots blocks log
-    → (slice_get log index ≡ Some block) ⊎ Clash (inputs_of log) (path_inputs roots index block trail)
+IsBlockUnder roots blocks index block trail = (log : List (List ℕ)) → IsLogUnder roots blocks log → IsBlockOrClash log roots index block trail
 
 -- hashes have 32 bytes
 abbrev pub HasHash : Twig → Type 0

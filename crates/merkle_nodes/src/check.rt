@@ -43,8 +43,9 @@ pub enum BundleFault {
 #[tactic(auto, using(crate::proofs::BundleSize::bundle_bound))]
 pub fn check_bundle<V: Verifier>(bytes: &[u8], verifier: &V) -> Result<Opened, BundleFault>
     ensures checks { Checks (V.accepts verifier.now) bytes.now result }
-    ensures sound { IfOk result (λ opened. OpensSigned (V.accepts verifier.now) bytes.now opened) }
-    ensures bound { (bundle : BundleSpelled) → Spells bundle bytes.now → length bytes.now ≤ MAX_BUNDLE_BYTES }
+    ensures sound { IfOk result (OpensSigned (V.accepts verifier.now) bytes.now) }
+    ensures bound { (bundle : BundleSpelled) → Spells bundle bytes.now
+        → length bytes.now ≤ MAX_BUNDLE_BYTES }
 {
     match read_bundle(bytes) {
         Ok(bundle) => check_read(bytes, &bundle, verifier),

@@ -1,3 +1,4 @@
 mod BundleReads
 mod CommandLines
 mod Digits
+mod Verifiers

@@ -1,5 +1,5 @@
 -- What one run of the program may do: how each end of it comes about.
-use Rattle.std.specs.Prelude.{◌≡◌, ℕ, ◌<◌, ◌⊎◌, Bool, List, [], ◌++◌, length, map, Option, None, Some, IsTrue, IsFalse, String, string_bytes}
+use Rattle.std.specs.Prelude.{◌≡◌, ℕ, ◌<◌, ◌⊎◌, Bool, List, [], ◌++◌, length, map, Ok, Option, None, Some, IsTrue, IsFalse, String, string_bytes}
 use Rattle.std.specs.declared.alloc.Global.{Global}
 use Rattle.std.specs.Result.{result_unwrap_or}
 use Rattle.std.specs.Io.KnownBytes.{Keeps, Appends, Consumes, IsAtEnd}
@@ -7,7 +7,8 @@ use Rattle.hex.specs.Hex.{decode_sized}
 use Rattle.outside_traits.specs.Faults.{Rose}
 use Rattle.outside_traits.specs.Streams.{SourceView, SinkView, AppendsFront}
 use Rattle.merkle_nodes.specs.Bundle.{Bundle, Spells}
-use Rattle.merkle_nodes.specs.Check.{NoBundle, IsFirstFault, BlockProved, HeadAccepted, Differs}
+use Rattle.merkle_nodes.specs.Check.{NoBundle, IsFirstFault, BlockProved, HeadAccepted, Differs, Checks, OpensSigned, block_at}
+use Rattle.merkle_nodes.specs.declared.check.Opened.{Opened}
 use Rattle.merkle_nodes.specs.declared.reading.TheConstants.{MAX_BUNDLE_BYTES}
 use Rattle.hypercore_cli.specs.Words.{is_well_formed, key_word}
 use Rattle.hypercore_cli.specs.declared.outcome.Outcome.{Outcome}
@@ -49,9 +50,10 @@ pub record HasRead (r : Run) (bytes : List ℕ) : Type 0 where
 abbrev pub Read : Run → (List ℕ → Type 0) → Type 0
 Read r P = (bytes : List ℕ) × HasRead r bytes × P bytes
 
--- the bytes are a bundle whose block is proved under an accepted head
-abbrev pub IsProvedBundle : (List ℕ → List ℕ → Bool) → Bundle → List ℕ → Type 0
-IsProvedBundle accepts b bytes = Spells b bytes × BlockProved b × HeadAccepted accepts b
+-- the bytes are a bundle whose block, which stands there, is proved under an accepted head; so it is that of each log under
+-- the bundle's roots, or two different inputs of equal hash are in hand
+abbrev pub IsProved : (List ℕ → List ℕ → Bool) → List ℕ → Opened → Type 0
+IsProved accepts bytes opened = Checks accepts bytes (Ok opened) × OpensSigned accepts bytes opened
 
 -- the output is as it was
 abbrev pub NoOutput : Run → Type 0
@@ -59,11 +61,11 @@ NoOutput r = Keeps r.output.holds r.output_now.holds
 
 -- when each end of a check of some bytes comes, and what the output then has
 abbrev pub ChecksBytes : (List ℕ → List ℕ → Bool) → List ℕ → SinkView → SinkView → Outcome → Type 0
-ChecksBytes accepts bytes output output_now Done = (b : Bundle) × IsProvedBundle accepts b bytes × Appends output.holds output_now.holds b.block
+ChecksBytes accepts bytes output output_now Done = (opened : Opened) × IsProved accepts bytes opened × Appends output.holds output_now.holds (block_at bytes opened)
 ChecksBytes accepts bytes output output_now Usage = ⊥
 ChecksBytes accepts bytes output output_now ReadFault = ⊥
 ChecksBytes accepts bytes output output_now WriteFault = Rose output.faults output_now.faults
-    × (b : Bundle) × IsProvedBundle accepts b bytes × AppendsFront output.holds output_now.holds b.block
+    × (opened : Opened) × IsProved accepts bytes opened × AppendsFront output.holds output_now.holds (block_at bytes opened)
 ChecksBytes accepts bytes output output_now (BadForm at) = NoBundle bytes × IsFirstFault bytes at × Keeps output.holds output_now.holds
 ChecksBytes accepts bytes output output_now (NotProved index want have) = ((b : Bundle) × Spells b bytes × Differs b index want have) × Keeps output.holds output_now.holds
 ChecksBytes accepts bytes output output_now BadSignature = ((b : Bundle) × Spells b bytes × BlockProved b × (HeadAccepted accepts b → ⊥)) × Keeps output.holds output_now.holds

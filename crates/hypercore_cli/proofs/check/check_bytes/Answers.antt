@@ -1,0 +1,18 @@
+use Rattle.std.proofs.Common.{refl}
+use Rattle.hypercore_cli.proofs.Verifiers.{IsProved-same}
+use Rattle.hypercore_cli.proofs.check.check_bytes.Goals as goal
+
+pub returns-in-Ok-write_all : goal.returns-in-Ok-write_all
+returns-in-Ok-write_all g c = (
+  c.in-Ok.opened,
+  IsProved-same _ _ c.args.bytes.now c.in-Ok.opened c.auth.ensures c.in-Ok.ensures.checks c.in-Ok.ensures.sound,
+  c.in-Ok-write_all.ensures.all.holds,
+)
+
+pub returns-in-Ok : goal.returns-in-Ok
+returns-in-Ok g c = (
+  c.in-Err.ensures.all.cause.rose refl,
+  c.in-Ok.opened,
+  IsProved-same _ _ c.args.bytes.now c.in-Ok.opened c.auth.ensures c.in-Ok.ensures.checks c.in-Ok.ensures.sound,
+  c.in-Err.ensures.all.holds,
+)

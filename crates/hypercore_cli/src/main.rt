@@ -7,6 +7,8 @@ mod check;
 mod line;
 mod outcome;
 mod run;
+#[cfg(test)]
+mod tests;
 mod words;
 
 use crate::authority::MacKeys;

@@ -1,5 +1,5 @@
 -- Faults of the outside: a count that never falls, and answers that come only where it rose.
-use Rattle.std.specs.Prelude.{◌≡◌, ℕ, ◌+◌, ◌-◌, ◌^◌, ◌≤◌, min, Result, IsErr}
+use Rattle.std.specs.Prelude.{◌≡◌, ℕ, ◌+◌, ◌-◌, ◌^◌, ◌≤◌, min, Result, IsErr, MatchResult}
 
 -- a count that a fault was added to: it stands still at its type's end
 abbrev pub count_fault : ℕ → ℕ
@@ -13,3 +13,7 @@ Rose before now = count_fault before ≤ now
 pub record HasCause {T E : Type 0} (before now : ℕ) (answer : Result T E) : Type 0 where
   pub kept : before ≤ now
   pub rose : IsErr answer → Rose before now
+
+-- a fault was added with an Err, and none with an Ok
+abbrev pub CountsFault : {T E : Type 0} → ℕ → ℕ → Result T E → Type 0
+CountsFault before now answer = MatchResult answer (λ _. now ≡ before) (λ _. now ≡ count_fault before)

@@ -1,11 +1,11 @@
--- What is seen of the program's own streams: their count of faults alone.
-use Rattle.std.specs.Prelude.{ℕ, None}
+-- What is seen of the program's own streams: what their reader or writer tells, and their count of faults.
+use Rattle.std.specs.Prelude.{ℕ, List, Option, None}
 use Rattle.outside_traits.specs.Streams.{SourceView, SinkView}
 
--- a source that tells no byte
-abbrev pub quiet_source_view : ℕ → SourceView
-quiet_source_view count = record { given = None; left = None; faults = count }
+-- a source over a reader with these bytes left, where it tells
+abbrev pub reader_view : Option (List ℕ) → ℕ → SourceView
+reader_view bytes count = record { given = None; left = bytes; faults = count }
 
--- a sink that tells no byte
-abbrev pub quiet_sink_view : ℕ → SinkView
-quiet_sink_view count = record { holds = None; faults = count }
+-- a sink over a writer that holds these bytes, where it tells
+abbrev pub writer_view : Option (List ℕ) → ℕ → SinkView
+writer_view bytes count = record { holds = bytes; faults = count }

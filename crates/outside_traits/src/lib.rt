@@ -12,6 +12,8 @@ mod sink;
 mod source;
 mod standard;
 mod sure;
+#[cfg(test)]
+mod tests;
 
 pub use auth::{Keys, PlainAuth, Signer, Verifier};
 pub use blob::Blob;

@@ -1,6 +1,9 @@
-//! The program's own streams, as a source and a sink. What they give and take isn't told: this is the trusted edge.
+//! The program's own streams, as a source and a sink. They tell what their reader or writer tells, which for an open
+//! file or a pipe is nothing: this is the trusted edge.
 ghost use Rattle.std.specs.Prelude.{◌≡◌};
-ghost use Rattle.outside_traits.specs.Standard.{quiet_source_view, quiet_sink_view};
+ghost use Rattle.outside_traits.specs.Faults.{CountsFault};
+ghost use Rattle.outside_traits.specs.Streams.{Reads, Writes};
+ghost use Rattle.outside_traits.specs.Standard.{reader_view, writer_view};
 
 use crate::failed::Failed;
 use crate::sink::Sink;
@@ -17,19 +20,23 @@ pub struct StdSource<R: Read> {
 impl<R: Read> StdSource<R> {
     /// A source over `reader`, with no fault so far.
     pub fn new(reader: R) -> StdSource<R>
-        ensures { result.faults ≡ 0 }
+        ensures reader { result.reader ≡ reader }
+        ensures faults { result.faults ≡ 0 }
     {
         StdSource { reader, faults: 0 }
     }
 }
 
 impl<R: Read> Source for StdSource<R> {
-    ghost source = { λ source. quiet_source_view source.faults };
+    ghost source = { λ source. reader_view (R.remaining source.reader) source.faults };
 
-    fn read(&mut self, into: &mut [u8]) -> Result<usize, Failed> {
+    fn read(&mut self, into: &mut [u8]) -> Result<usize, Failed>
+        ensures reads { Reads (reader_view (R.remaining self.old.reader) self.old.faults)
+            (reader_view (R.remaining self.new.reader) self.new.faults) result into.new }
+        ensures faults { CountsFault self.old.faults self.new.faults result }
+    {
         match self.reader.read(into) {
-            Ok(n) if n > 0 || into.is_empty() => Ok(n),
-            Ok(_) => Ok(0),
+            Ok(n) => Ok(n),
             Err(_) => {
                 self.faults = self.faults.saturating_add(1);
                 Err(Failed)
@@ -48,16 +55,21 @@ pub struct StdSink<W: Write> {
 impl<W: Write> StdSink<W> {
     /// A sink over `writer`, with no fault so far.
     pub fn new(writer: W) -> StdSink<W>
-        ensures { result.faults ≡ 0 }
+        ensures writer { result.writer ≡ writer }
+        ensures faults { result.faults ≡ 0 }
     {
         StdSink { writer, faults: 0 }
     }
 }
 
 impl<W: Write> Sink for StdSink<W> {
-    ghost sink = { λ sink. quiet_sink_view sink.faults };
+    ghost sink = { λ sink. writer_view (W.contents sink.writer) sink.faults };
 
-    fn write(&mut self, bytes: &[u8]) -> Result<usize, Failed> {
+    fn write(&mut self, bytes: &[u8]) -> Result<usize, Failed>
+        ensures writes { Writes (writer_view (W.contents self.old.writer) self.old.faults)
+            (writer_view (W.contents self.new.writer) self.new.faults) result bytes.now }
+        ensures faults { CountsFault self.old.faults self.new.faults result }
+    {
         match self.writer.write(bytes) {
             Ok(n) if n > 0 => Ok(n),
             _ => {

@@ -1,5 +1,5 @@
 //! A source that never fails, and a sink that never fails and tells nothing.
-ghost use Rattle.std.specs.Prelude.{◌≡◌, ◌≤◌, ◌<◌, ℕ, List, [], Some, None, IsOk, IfOk, min, take, drop, length};
+ghost use Rattle.std.specs.Prelude.{◌≡◌, ◌≤◌, ◌<◌, ℕ, List, [], Some, None, Ok, IsOk, IfOk, min, take, drop, length};
 ghost use Rattle.outside_traits.specs.Streams.{Reads, Writes};
 ghost use Rattle.outside_traits.specs.Sure.{SureSourceView, sure_source_view_of, sure_sink_view};
 
@@ -59,7 +59,7 @@ impl Sink for SureSink {
 
     fn write(&mut self, bytes: &[u8]) -> Result<usize, Failed>
         ensures writes { Writes sure_sink_view sure_sink_view result bytes.now }
-        ensures sure { IsOk result }
+        ensures all { result ≡ Ok (length bytes.now) }
     {
         Ok(bytes.len())
     }

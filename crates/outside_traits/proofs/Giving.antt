@@ -1,10 +1,9 @@
 -- What a source over a list does when it gives the next bytes of it.
-use Rattle.std.proofs.Common.{◌≡◌, ℕ, ◌+◌, ◌-◌, ◌<◌, ◌≤◌, List, [], ◌++◌, length, take, drop, min, Some, Ok, refl, sym, ap, ◌∙◌, subst, arith, rules, take-append-drop, length-append, length-drop}
+use Rattle.std.proofs.Common.{◌≡◌, ℕ, ◌+◌, ◌-◌, ◌≤◌, List, ◌++◌, length, take, drop, min, Ok, sym, ap, ◌∙◌, arith, take-append-drop, length-append, length-drop}
 use Rattle.std.proofs.lemmas.List.{length-take-le, drop_all}
 use Rattle.std.proofs.Math.Seq.{take-add, drop-drop, take_at}
 use Rattle.outside_traits.specs.Streams.{SourceView, Reads}
 use Rattle.outside_traits.specs.Sure.{sure_source_view_of}
-use Rattle.outside_traits.specs.Faults.{HasCause}
 use Rattle.outside_traits.specs.declared.failed.Failed.{Failed}
 
 -- the source over these bytes, of which so many were given

@@ -1,5 +1,5 @@
 -- What is seen of the forms in memory: their bytes, and which of their calls are to fail.
-use Rattle.std.specs.Prelude.{ℕ, ◌+◌, ◌-◌, ◌^◌, min, List, Some}
+use Rattle.std.specs.Prelude.{ℕ, List, Some}
 use Rattle.outside_traits.specs.Streams.{SourceView, SinkView}
 
 -- a source in memory: the bytes given and left, the numbers of the calls that are to fail, how many calls were made,

@@ -1,6 +1,6 @@
 -- What is seen of a source and of a sink, and what their calls do to it.
-use Rattle.std.specs.Prelude.{◌≡◌, ℕ, ◌<◌, ◌≤◌, Bool, List, [], ◌++◌, length, take, Option, Some, None, Result, Ok, Err, IfOk, MatchResult, ⊤, ◌⊎◌}
-use Rattle.std.specs.Io.KnownBytes.{Keeps, Appends, Consumes, IsAtEnd, ReadConsumes, WriteAppends}
+use Rattle.std.specs.Prelude.{◌≡◌, ℕ, ◌<◌, ◌≤◌, List, ◌++◌, length, take, Option, Result, IfOk, MatchResult, ◌⊎◌}
+use Rattle.std.specs.Io.KnownBytes.{Appends, Consumes, IsAtEnd, ReadConsumes, WriteAppends}
 use Rattle.outside_traits.specs.Faults.{HasCause}
 
 -- what is seen of a source: the bytes that it gave and those that are left, where it tells, and its count of faults

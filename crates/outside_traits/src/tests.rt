@@ -28,7 +28,7 @@ impl Write for Broken {
 }
 
 #[test]
-fn adapters(rt: HostRuntime) {
+fn standard_source(rt: HostRuntime) {
     let mut source = StdSource::new([1, 2, 3, 4, 5].as_slice());
     let mut place = [0u8; 2];
     for (count, want) in [(2, [1, 2]), (2, [3, 4]), (1, [5, 4]), (0, [5, 4])] {
@@ -36,24 +36,21 @@ fn adapters(rt: HostRuntime) {
         assert_eq!(rt; place, want);
     }
     assert_eq!(rt; StdSource::new(Broken).read(&mut place), Err(Failed));
+}
 
+#[test]
+fn standard_sink(rt: HostRuntime) {
     let mut held = Vec::new(rt.alloc());
     let mut sink = StdSink::new(&mut held);
-    assert_eq!(rt; sink.write(&[1, 2]), Ok(2));
-    assert_eq!(rt; sink.write(&[]), Err(Failed));
-    assert_eq!(rt; sink.write(&[3]), Ok(1));
+    for (piece, want) in [
+        ([1, 2].as_slice(), Ok(2)),
+        ([].as_slice(), Err(Failed)),
+        ([3].as_slice(), Ok(1)),
+    ] {
+        assert_eq!(rt; sink.write(piece), want, "at {piece:?}");
+    }
     assert_eq!(rt; held.as_slice(), [1, 2, 3].as_slice());
     assert_eq!(rt; StdSink::new(Broken).write(&[1]), Err(Failed));
-
-    let mut room = [0; 1];
-    let mut small = StdSink::new(room.as_mut_slice());
-    assert_eq!(rt; small.write(&[7, 8]), Ok(1));
-    assert_eq!(rt;
-        small.write(&[8]),
-        Err(Failed),
-        "a writer that takes nothing"
-    );
-    assert_eq!(rt; room, [7]);
 }
 
 #[test]
@@ -66,20 +63,14 @@ fn planned_calls(rt: HostRuntime) -> Result<(), Fail> {
     let rows = [
         (Ok(2), Ok(2), "the first of each"),
         (Err(Failed), Err(Failed), "planned"),
-        (Ok(1), Err(Failed), "planned for the sink alone"),
-        (
-            Err(Failed),
-            Ok(1),
-            "planned for the source, room for one byte",
-        ),
+        (Ok(1), Err(Failed), "planned for one"),
+        (Err(Failed), Ok(1), "room for one byte"),
         (Ok(0), Err(Failed), "the end, no room"),
     ];
-    let mut place = [0u8; 2];
     for (read, written, row) in rows {
-        assert_eq!(rt; source.read(&mut place), read, "read: {row}");
+        assert_eq!(rt; source.read(&mut [0; 2]), read, "read: {row}");
         assert_eq!(rt; sink.write(&[8, 9]), written, "write: {row}");
     }
-    assert_eq!(rt; place, [3, 2]);
     assert_eq!(rt; sink.bytes(), [8, 9, 8].as_slice());
     Ok(())
 }
@@ -96,12 +87,8 @@ fn whole_pieces(rt: HostRuntime) -> Result<(), Fail> {
     let mut source = MemSource::new(alloc, blob);
     source.plan_faults([1].to_vec(alloc)?);
     let mut place = [0u8; 8];
-    assert_eq!(rt;
-        fill(&mut source, &mut place),
-        Err(Failed),
-        "after five bytes"
-    );
-    assert_eq!(rt; fill(&mut source, &mut place), Ok(0), "those five are lost");
+    assert_eq!(rt; fill(&mut source, &mut place), Err(Failed));
+    assert_eq!(rt; fill(&mut source, &mut place), Ok(0));
 
     let mut sink = MemSink::new(alloc, 3)?;
     sink.plan_faults([0].to_vec(alloc)?);
@@ -122,22 +109,15 @@ fn plain_authority(rt: HostRuntime) {
     let text = [5; 80];
     let signature = auth.sign(&text);
     assert!(rt; auth.verify(&text, &signature));
-    assert!(rt;
-        !PlainAuth { mark: 8 }.verify(&text, &signature),
-        "another mark"
-    );
+    assert!(rt; !PlainAuth { mark: 8 }.verify(&text, &signature));
     for (at, accepted) in [(0, true), (31, true), (32, false), (79, false)] {
         let mut other = text;
         other[at] = 6;
-        assert_eq!(rt;
-            auth.verify(&other, &signature),
-            accepted,
-            "byte {at} of the text"
-        );
+        assert_eq!(rt; auth.verify(&other, &signature), accepted, "text {at}");
     }
     for at in [0, 47, 48, 63] {
         let mut other = signature;
         other[at] = 6;
-        assert!(rt; !auth.verify(&text, &other), "byte {at} of the signature");
+        assert!(rt; !auth.verify(&text, &other), "signature {at}");
     }
 }

@@ -1,4 +1,4 @@
-use Rattle.std.proofs.Common.{◌≡◌, ◌≢◌, [], ◌-◌, ap, sym, ◌∙◌, length, take, drop, rules, arith}
+use Rattle.std.proofs.Common.{◌≢◌, [], arith}
 use Rattle.std.proofs.lemmas.List.{take_rest}
 use Rattle.outside_traits.proofs.Writing.{HasWritten-step}
 use Rattle.outside_traits.proofs.sink.write_all.Goals as goal

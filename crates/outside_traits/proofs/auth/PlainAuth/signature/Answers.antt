@@ -1,4 +1,4 @@
-use Rattle.std.proofs.Common.{ap, ◌∙◌, ◌++◌, ◌-◌, replicate, drop, length, arith, length-drop}
+use Rattle.std.proofs.Common.{ap, ◌∙◌, ◌++◌, ◌-◌, replicate, drop, arith, length-drop}
 use Rattle.std.proofs.lemmas.List.{take_all}
 use Rattle.outside_traits.proofs.auth.PlainAuth.signature.Goals as goal
 

@@ -1,4 +1,4 @@
-use Rattle.std.proofs.Common.{sym, ap, ◌∙◌, ◌-◌, ◌≡◌, ℕ, List, take, drop, length, min}
+use Rattle.std.proofs.Common.{ap, ◌∙◌, ◌-◌, ◌≡◌, take, drop, length, min}
 use Rattle.std.proofs.lemmas.List.{take_rest}
 use Rattle.outside_traits.proofs.Giving.{Reads-gives}
 use Rattle.outside_traits.proofs.sure.SureSourceSource.read.Goals as goal

@@ -89,7 +89,8 @@ impl<N: Named, F: Ledger> Toy<N, F> {
     /// The length and the number of commits, once all passes are handed in.
     pub fn close(self, passes: PassList<N, F>) -> Result<(u64, u64), ToyOpen<N, F>>
         ensures ok { IfOk result (λ r. Ended N.start passes.items r.0 r.1) }
-        ensures not_all { IfErr result (λ e. (e.have ≡ length passes.items) × (e.toy ≡ self) × (e.passes ≡ passes)) }
+        ensures not_all { IfErr result (λ e. (e.have ≡ length passes.items) × (e.toy ≡ self)
+            × (e.passes ≡ passes)) }
         ensures refused { IsErr result ↔ (length passes.items < self.passes) }
     {
         let Toy { length, book } = self;

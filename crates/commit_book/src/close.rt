@@ -31,7 +31,8 @@ impl<N: Named, F: Ledger> Book<N, F> {
         ensures marks { IfOk result (λ n. self.marks ≡ marks_of passes.items) }
         ensures marked { IfOk result (λ n. (0 < self.marks) ↔ Any IsMarked passes.items) }
         ensures refused { IsErr result ↔ (length passes.items < self.passes) }
-        ensures not_all { IsErr result → result ≡ Err (BookClose.NotAll (length passes.items) self passes) }
+        ensures not_all { IsErr result → result ≡ Err (BookClose.NotAll
+            (length passes.items) self passes) }
     {
         if passes.len() < self.passes as usize {
             return Err(BookClose::NotAll {

@@ -147,7 +147,8 @@ fn deal<N: Named, F: Ledger>(
     requires marks { (1 ≤ marks.old.parts) × (marks.old.amount ≡ 0) }
     ensures pass { IfOk result (λ p. p ≡ new_pass) }
     ensures seat { IsSeated N.book true seat.new × (seat.new.me.0 ≡ seat.old.me.0) }
-    ensures commits { OnOk result ((commits.new.parts + 1 ≡ commits.old.parts) × (commits.new.amount ≡ 0)) }
+    ensures commits { OnOk result ((commits.new.parts + 1 ≡ commits.old.parts)
+        × (commits.new.amount ≡ 0)) }
     ensures marks { OnOk result ((marks.new.parts + 1 ≡ marks.old.parts) × (marks.new.amount ≡ 0)) }
 {
     let shared = Arc::try_clone(sheet)?;

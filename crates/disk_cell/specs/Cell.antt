@@ -13,6 +13,7 @@ gate_of (gate ∷ bytes) = gate
 abbrev pub copy_at : ℕ → Area
 copy_at gate = if gate == 1 then BitsB else BitsA
 
+-- the copy that the gate does not choose
 abbrev pub spare_at : ℕ → Area
 spare_at gate = if gate == 1 then BitsA else BitsB
 

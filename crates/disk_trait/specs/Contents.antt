@@ -12,6 +12,7 @@ pub record Contents : Type 0 where
   pub bits_b : List ℕ
   pub blocks : List ℕ
 
+-- one area's bytes
 abbrev pub content_of : Contents → Area → List ℕ
 content_of all Oplog = all.oplog
 content_of all Tree = all.tree
@@ -27,6 +28,7 @@ with_content BitsA bytes all = record all { bits_a = bytes }
 with_content BitsB bytes all = record all { bits_b = bytes }
 with_content Blocks bytes all = record all { blocks = bytes }
 
+-- no area has a byte
 abbrev pub empty : Contents
 empty = record { oplog = []; tree = []; bits_a = []; bits_b = []; blocks = [] }
 

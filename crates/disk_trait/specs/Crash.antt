@@ -6,6 +6,7 @@ use Rattle.disk_trait.specs.Disk.{is_same, overlay}
 use Rattle.disk_trait.specs.Contents.{Contents, content_of, with_content}
 use Rattle.disk_trait.specs.History.{Change, wrote, cut_to, synced, Step, changed, until, MemDiskView}
 
+-- the change is a sync
 abbrev pub is_sync : Change → Bool
 is_sync (wrote at bytes) = false
 is_sync (cut_to to) = false

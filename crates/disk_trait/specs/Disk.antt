@@ -22,6 +22,7 @@ place_of BitsA = 2
 place_of BitsB = 3
 place_of Blocks = 4
 
+-- two areas are one
 abbrev pub is_same : Area → Area → Bool
 is_same a b = place_of a == place_of b
 
@@ -96,10 +97,12 @@ pub record Counts {T E : Type 0} (old new : DiskView) (answer : Result T E) : Ty
   pub calls : new.calls ≡ min (old.calls + 1) (2 ^ 64 - 1)
   pub cause : HasCause old.faults new.faults answer
 
+-- what a read of so many bytes from a place does
 pub record Reads {E : Type 0} (area : Area) (at : ℕ) (old_into new_into : List ℕ) (old new : DiskView) (answer : Result ℕ E) : Type 0 where
   pub keeps : Keeps old new
   pub ok : IfOk answer (ReadsAt at (old.reads area) old_into new_into)
 
+-- what asking for a size does
 pub record Sizes {E : Type 0} (area : Area) (old new : DiskView) (answer : Result ℕ E) : Type 0 where
   pub keeps : Keeps old new
   pub ok : IfOk answer (λ n. n ≡ length (old.reads area))

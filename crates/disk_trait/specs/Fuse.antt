@@ -7,12 +7,15 @@ use Rattle.disk_trait.specs.Disk.{DiskView, Counts}
 abbrev pub inner_of : {D : Type 0} → FuseDisk D → D
 inner_of fuse = fuse.inner
 
+-- how many calls still pass
 abbrev pub left_of : {D : Type 0} → FuseDisk D → ℕ
 left_of fuse = fuse.left
 
+-- how many calls were made
 abbrev pub made_of : {D : Type 0} → FuseDisk D → ℕ
 made_of fuse = fuse.made
 
+-- how many calls the fuse refused
 abbrev pub refused_of : {D : Type 0} → FuseDisk D → ℕ
 refused_of fuse = fuse.refused
 
@@ -20,6 +23,7 @@ refused_of fuse = fuse.refused
 abbrev pub fused : DiskView → ℕ → ℕ → DiskView
 fused inner made refused = record inner { calls = made; faults = min (inner.faults + refused) (2 ^ 64 - 1) }
 
+-- what is seen of the disk behind the fuse
 abbrev pub fuse_view_of : {D : Type 0} → (D → DiskView) → FuseDisk D → DiskView
 fuse_view_of disk fuse = fused (disk fuse.inner) fuse.made fuse.refused
 

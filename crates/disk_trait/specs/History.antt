@@ -18,11 +18,13 @@ pub record Step : Type 0 where
   pub area : Area
   pub change : Change
 
+-- an area's bytes after a change
 abbrev pub changed : Change → List ℕ → List ℕ
 changed (wrote at bytes) old = overlay at bytes old
 changed (cut_to to) old = take to old
 changed synced old = old
 
+-- all areas after a step
 abbrev pub after : Step → Contents → Contents
 after step all = with_content step.area (changed step.change (content_of all step.area)) all
 

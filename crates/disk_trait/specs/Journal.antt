@@ -12,11 +12,13 @@ use Rattle.disk_trait.specs.declared.replay.Syncs.{Syncs}
 use Rattle.disk_trait.specs.Disk.{is_same}
 use Rattle.disk_trait.specs.History.{Change, wrote, cut_to, synced, Step}
 
+-- the change of a row, whose bytes lie in the payload
 abbrev pub change_in : List ℕ → Kind → Change
 change_in payload (Write at from len) = wrote at (take len (drop from payload))
 change_in payload (Cut to) = cut_to to
 change_in payload Sync = synced
 
+-- the step of a row
 abbrev pub step_in : List ℕ → Row → Step
 step_in payload row = record { call = row.call; area = row.area; change = change_in payload row.kind }
 
@@ -30,6 +32,7 @@ HasBytes payload (Write at from len) = (from + len ≤ length payload) × (at + 
 HasBytes payload (Cut to) = ⊤
 HasBytes payload Sync = ⊤
 
+-- the bytes of each row lie in the payload
 abbrev pub RowsHaveBytes : List ℕ → List Row → Type 0
 RowsHaveBytes payload rows = All (λ row. HasBytes payload row.kind) rows
 
@@ -44,6 +47,7 @@ pub record IsKept (rows : Vec Row Global) (payload : Vec ℕ Global) (left : ℕ
   pub rows_room : ROW_BYTES * length rows.items + left ≤ ROW_BYTES * vec_capacity rows
   pub payload_room : length payload.items + left ≤ vec_capacity payload
 
+-- the row is of a sync
 abbrev pub is_sync_kind : Kind → Bool
 is_sync_kind (Write at from len) = false
 is_sync_kind (Cut to) = false
@@ -58,6 +62,7 @@ abbrev pub has_sync : Area → List Row → Bool
 has_sync area [] = false
 has_sync area (row ∷ rows) = is_sync_of area row || has_sync area rows
 
+-- the number of an area's last sync
 abbrev pub last_of : Syncs → Area → ℕ
 last_of syncs Oplog = syncs.oplog
 last_of syncs Tree = syncs.tree

@@ -36,17 +36,20 @@ pub trait Disk {
     fn cut(&mut self, area: Area, to: u64) -> Result<(), Failed>
         requires { IsTrue (disk self.old).honest → to ≤ length ((disk self.old).reads area) }
         ensures counts { Counts (disk self.old) (disk self.new) result }
-        ensures cuts { IsTrue (disk self.old).honest → Cuts area to (disk self.old) (disk self.new) result };
+        ensures cuts { IsTrue (disk self.old).honest
+            → Cuts area to (disk self.old) (disk self.new) result };
 
     /// Makes durable what the area reads as.
     fn sync(&mut self, area: Area) -> Result<(), Failed>
         ensures counts { Counts (disk self.old) (disk self.new) result }
-        ensures syncs { IsTrue (disk self.old).honest → Syncs area (disk self.old) (disk self.new) result };
+        ensures syncs { IsTrue (disk self.old).honest
+            → Syncs area (disk self.old) (disk self.new) result };
 
     /// The area's size in bytes.
     fn size(&mut self, area: Area) -> Result<u64, Failed>
         ensures counts { Counts (disk self.old) (disk self.new) result }
-        ensures sizes { IsTrue (disk self.old).honest → Sizes area (disk self.old) (disk self.new) result };
+        ensures sizes { IsTrue (disk self.old).honest
+            → Sizes area (disk self.old) (disk self.new) result };
 
     /// The count of faults. It isn't counted as a call.
     fn faults(&self) -> u64

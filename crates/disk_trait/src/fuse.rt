@@ -63,7 +63,8 @@ impl<D: Disk> Disk for FuseDisk<D> {
     ghost may_stay = { λ fuse honest. D.Disk.may_stay fuse.inner honest };
 
     fn read(&mut self, area: Area, at: u64, into: &mut [u8]) -> Result<usize, Failed>
-        ensures counts { Counts (fuse_view_of D.Disk.disk self.old) (fuse_view_of D.Disk.disk self.new) result }
+        ensures counts { Counts (fuse_view_of D.Disk.disk self.old)
+            (fuse_view_of D.Disk.disk self.new) result }
         ensures reads { IsTrue (D.Disk.disk self.old.inner).honest
             → Reads area at into.old into.new (fuse_view_of D.Disk.disk self.old) (fuse_view_of D.Disk.disk self.new) result }
         ensures fuse { Fuses D.Disk.disk self.old self.new result }
@@ -75,7 +76,8 @@ impl<D: Disk> Disk for FuseDisk<D> {
     }
 
     fn write(&mut self, area: Area, at: u64, bytes: &[u8]) -> Result<(), Failed>
-        ensures counts { Counts (fuse_view_of D.Disk.disk self.old) (fuse_view_of D.Disk.disk self.new) result }
+        ensures counts { Counts (fuse_view_of D.Disk.disk self.old)
+            (fuse_view_of D.Disk.disk self.new) result }
         ensures writes { IsTrue (D.Disk.disk self.old.inner).honest
             → Writes area at bytes.now (fuse_view_of D.Disk.disk self.old) (fuse_view_of D.Disk.disk self.new) result }
         ensures fuse { Fuses D.Disk.disk self.old self.new result }
@@ -89,7 +91,8 @@ impl<D: Disk> Disk for FuseDisk<D> {
     fn cut(&mut self, area: Area, to: u64) -> Result<(), Failed>
         requires { IsTrue (D.Disk.disk self.old.inner).honest
             → to ≤ length ((D.Disk.disk self.old.inner).reads area) }
-        ensures counts { Counts (fuse_view_of D.Disk.disk self.old) (fuse_view_of D.Disk.disk self.new) result }
+        ensures counts { Counts (fuse_view_of D.Disk.disk self.old)
+            (fuse_view_of D.Disk.disk self.new) result }
         ensures cuts { IsTrue (D.Disk.disk self.old.inner).honest
             → Cuts area to (fuse_view_of D.Disk.disk self.old) (fuse_view_of D.Disk.disk self.new) result }
         ensures fuse { Fuses D.Disk.disk self.old self.new result }
@@ -101,7 +104,8 @@ impl<D: Disk> Disk for FuseDisk<D> {
     }
 
     fn sync(&mut self, area: Area) -> Result<(), Failed>
-        ensures counts { Counts (fuse_view_of D.Disk.disk self.old) (fuse_view_of D.Disk.disk self.new) result }
+        ensures counts { Counts (fuse_view_of D.Disk.disk self.old)
+            (fuse_view_of D.Disk.disk self.new) result }
         ensures syncs { IsTrue (D.Disk.disk self.old.inner).honest
             → Syncs area (fuse_view_of D.Disk.disk self.old) (fuse_view_of D.Disk.disk self.new) result }
         ensures fuse { Fuses D.Disk.disk self.old self.new result }
@@ -113,7 +117,8 @@ impl<D: Disk> Disk for FuseDisk<D> {
     }
 
     fn size(&mut self, area: Area) -> Result<u64, Failed>
-        ensures counts { Counts (fuse_view_of D.Disk.disk self.old) (fuse_view_of D.Disk.disk self.new) result }
+        ensures counts { Counts (fuse_view_of D.Disk.disk self.old)
+            (fuse_view_of D.Disk.disk self.new) result }
         ensures sizes { IsTrue (D.Disk.disk self.old.inner).honest
             → Sizes area (fuse_view_of D.Disk.disk self.old) (fuse_view_of D.Disk.disk self.new) result }
         ensures fuse { Fuses D.Disk.disk self.old self.new result }

@@ -74,7 +74,8 @@ impl MemDisk {
     /// byte. The new disk has the same room, its calls are counted from 0, and none is to fail.
     pub fn crash(&self, alloc: Global, moment: u64, keep: u64) -> Result<MemDisk, Memory>
         requires { moment ≤ self.now.made }
-        ensures image { IfOk result (λ disk. IsImage (disk_view_of self.now) moment (disk_view_of disk).reads) }
+        ensures image { IfOk result (λ disk. IsImage (disk_view_of self.now) moment
+            (disk_view_of disk).reads) }
         ensures settled { IfOk result (λ disk. IsSettled (disk_view_of disk)) }
         ensures kept { IfOk result (λ disk. disk ≡ crashed moment keep self.now) }
     {
@@ -150,7 +151,8 @@ impl Disk for MemDisk {
 
     fn read(&mut self, area: Area, at: u64, into: &mut [u8]) -> Result<usize, Failed>
         ensures counts { Counts (disk_view_of self.old) (disk_view_of self.new) result }
-        ensures reads { IsTrue (disk_view_of self.old).honest → Reads area at into.old into.new (disk_view_of self.old) (disk_view_of self.new) result }
+        ensures reads { IsTrue (disk_view_of self.old).honest
+            → Reads area at into.old into.new (disk_view_of self.old) (disk_view_of self.new) result }
         ensures fails { IsErr result ↔ IsRefused self.old }
         ensures spends { Spends 0 self.old self.new result }
     {
@@ -162,8 +164,10 @@ impl Disk for MemDisk {
 
     fn write(&mut self, area: Area, at: u64, bytes: &[u8]) -> Result<(), Failed>
         ensures counts { Counts (disk_view_of self.old) (disk_view_of self.new) result }
-        ensures writes { IsTrue (disk_view_of self.old).honest → Writes area at bytes.now (disk_view_of self.old) (disk_view_of self.new) result }
-        ensures fails { IsErr result ↔ (IsRefused self.old ⊎ (self.old.room.bytes < at + length bytes.now)
+        ensures writes { IsTrue (disk_view_of self.old).honest
+            → Writes area at bytes.now (disk_view_of self.old) (disk_view_of self.new) result }
+        ensures fails { IsErr result ↔ (IsRefused self.old
+            ⊎ (self.old.room.bytes < at + length bytes.now)
             ⊎ (self.old.left < ROW_BYTES + length bytes.now)) }
         ensures spends { Spends (ROW_BYTES + length bytes.now) self.old self.new result }
     {
@@ -181,9 +185,11 @@ impl Disk for MemDisk {
     }
 
     fn cut(&mut self, area: Area, to: u64) -> Result<(), Failed>
-        requires { IsTrue (disk_view_of self.old).honest → to ≤ length ((disk_view_of self.old).reads area) }
+        requires { IsTrue (disk_view_of self.old).honest
+            → to ≤ length ((disk_view_of self.old).reads area) }
         ensures counts { Counts (disk_view_of self.old) (disk_view_of self.new) result }
-        ensures cuts { IsTrue (disk_view_of self.old).honest → Cuts area to (disk_view_of self.old) (disk_view_of self.new) result }
+        ensures cuts { IsTrue (disk_view_of self.old).honest
+            → Cuts area to (disk_view_of self.old) (disk_view_of self.new) result }
         ensures fails { IsErr result ↔ (IsRefused self.old ⊎ (self.old.left < ROW_BYTES)) }
         ensures spends { Spends ROW_BYTES self.old self.new result }
     {
@@ -200,7 +206,8 @@ impl Disk for MemDisk {
 
     fn sync(&mut self, area: Area) -> Result<(), Failed>
         ensures counts { Counts (disk_view_of self.old) (disk_view_of self.new) result }
-        ensures syncs { IsTrue (disk_view_of self.old).honest → Syncs area (disk_view_of self.old) (disk_view_of self.new) result }
+        ensures syncs { IsTrue (disk_view_of self.old).honest
+            → Syncs area (disk_view_of self.old) (disk_view_of self.new) result }
         ensures fails { IsErr result ↔ (IsRefused self.old ⊎ (self.old.left < ROW_BYTES)) }
         ensures spends { Spends ROW_BYTES self.old self.new result }
     {
@@ -216,7 +223,8 @@ impl Disk for MemDisk {
 
     fn size(&mut self, area: Area) -> Result<u64, Failed>
         ensures counts { Counts (disk_view_of self.old) (disk_view_of self.new) result }
-        ensures sizes { IsTrue (disk_view_of self.old).honest → Sizes area (disk_view_of self.old) (disk_view_of self.new) result }
+        ensures sizes { IsTrue (disk_view_of self.old).honest
+            → Sizes area (disk_view_of self.old) (disk_view_of self.new) result }
         ensures fails { IsErr result ↔ IsRefused self.old }
         ensures spends { Spends 0 self.old self.new result }
     {

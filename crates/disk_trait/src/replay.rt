@@ -15,7 +15,8 @@ use std::alloc::AllocError;
 /// How many rows are of calls before this one.
 pub fn rows_before(rows: &[Row], call: u64) -> usize
     ensures within { result ≤ length rows.now }
-    ensures rows { (payload : List ℕ) → until call (steps_in payload rows.now) ≡ steps_in payload (take result rows.now) }
+    ensures rows { (payload : List ℕ)
+        → until call (steps_in payload rows.now) ≡ steps_in payload (take result rows.now) }
 {
     let mut count = rows.len();
     while count > 0 && rows[count - 1].call >= call {
@@ -68,7 +69,8 @@ impl Syncs {
 }
 
 fn last_syncs(rows: &[Row]) -> Syncs
-    ensures { (area : AnArea) (i : ℕ) → has_sync area (drop (i + 1) rows.now) ≡ nat_lt i (last_of result area) }
+    ensures { (area : AnArea) (i : ℕ)
+        → has_sync area (drop (i + 1) rows.now) ≡ nat_lt i (last_of result area) }
 {
     Syncs {
         oplog: last_sync(rows, Area::Oplog),
@@ -135,7 +137,8 @@ fn replay_write(
     keep: u64,
 ) -> Result<u64, AllocError>
     requires { at + length bytes.now < 2 ^ 64 }
-    ensures left { IfOk result (λ left. left ≡ (if is_whole then keep else keep - length bytes.now)) }
+    ensures left { IfOk result (λ left.
+        left ≡ (if is_whole then keep else keep - length bytes.now)) }
     ensures files { OnOk result (files.new ≡ record files.old {
       all = with_content area
           (overlay at (if is_whole then bytes.now else take keep bytes.now) (content_of files.old.all area)) files.old.all;

@@ -6,6 +6,7 @@ use Rattle.merkle_nodes.specs.declared.node.Node.{Node}
 use Rattle.hypercore_cli.specs.declared.outcome.Outcome.{Outcome}
 use Rattle.hypercore_cli.specs.declared.outcome.Outcome.TheVariants.{Done, Usage, ReadFault, WriteFault, BadForm, NotProved, BadSignature, NoMemory}
 
+-- the exit status
 abbrev pub status_of : Outcome → ℕ
 status_of Done = 0
 status_of Usage = 2
@@ -24,6 +25,7 @@ line text = text ++ 10 ∷ []
 abbrev pub node_text : Node → List ℕ
 node_text node = decimal node.size ++ codes " " ++ encode_lower node.hash
 
+-- the line, or nothing where all went well
 abbrev pub line_of : Outcome → List ℕ
 line_of Done = []
 line_of Usage = line (codes "usage: hypercore_cli COMMAND KEY [NAME] [ARGUMENTS]")

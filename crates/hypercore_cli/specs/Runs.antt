@@ -33,6 +33,7 @@ pub record Run : Type 0 where
   pub output : SinkView
   pub output_now : SinkView
 
+-- a run of these words, authorities and streams
 abbrev pub run_of : List (List ℕ) → (List ℕ → List ℕ → List ℕ → Bool) → SourceView → SourceView → SinkView → SinkView → Run
 run_of words accepts input input_now output output_now =
     record { words = words; accepts = accepts; input = input; input_now = input_now; output = output; output_now = output_now }

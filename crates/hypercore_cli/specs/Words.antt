@@ -17,6 +17,7 @@ pub record Row : Type 0 where
   pub command : List ℕ
   pub slots : List Slot
 
+-- a row of the table
 abbrev pub row : List ℕ → List Slot → Row
 row command slots = record { command = command; slots = slots }
 
@@ -42,6 +43,7 @@ rows =
 abbrev pub is_built : Row → Bool
 is_built r = bytes_eq r.command (codes "check")
 
+-- a decimal digit
 abbrev pub is_digit : ℕ → Bool
 is_digit c = nat_le 48 c && nat_le c 57
 

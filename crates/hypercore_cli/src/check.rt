@@ -49,7 +49,8 @@ fn check_within<K: Keys, I: Source, O: Sink>(
 
 /// Checks these bytes as a bundle, and writes its block.
 fn check_bytes<K: Keys, O: Sink>(bytes: &[u8], key: &[u8; 32], keys: &K, output: &mut O) -> Outcome
-    ensures { ChecksBytes (K.key_accepts keys.now key.now) bytes.now (O.sink output.old) (O.sink output.new) result }
+    ensures { ChecksBytes (K.key_accepts keys.now key.now) bytes.now (O.sink output.old)
+        (O.sink output.new) result }
 {
     match check_bundle(bytes, &keys.auth(key)) {
         Ok(opened) => match write_all(output, &bytes[opened.start..opened.end]) {

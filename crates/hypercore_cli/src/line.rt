@@ -55,8 +55,8 @@ fn bad_form_line(at: usize) -> Line
 }
 
 fn not_proved_line(index: u64, want: &Node, have: &Node) -> Line
-    ensures { result ≡ codes "not proved: index " ++ decimal index ++ codes " want " ++ node_text want.now
-        ++ codes " have " ++ node_text have.now ++ 10 ∷ [] }
+    ensures { result ≡ codes "not proved: index " ++ decimal index ++ codes " want "
+        ++ node_text want.now ++ codes " have " ++ node_text have.now ++ 10 ∷ [] }
 {
     let mut line = text_line(b"not proved: index ");
     put_number(&mut line, index);

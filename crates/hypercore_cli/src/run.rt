@@ -37,8 +37,8 @@ fn command<K: Keys, I: Source, O: Sink>(
     input: &mut I,
     output: &mut O,
 ) -> Outcome
-    ensures { Causes (run_of (texts words.now) (K.key_accepts keys.now) (I.source input.old) (I.source input.new)
-        (O.sink output.old) (O.sink output.new)) result }
+    ensures { Causes (run_of (texts words.now) (K.key_accepts keys.now)
+        (I.source input.old) (I.source input.new) (O.sink output.old) (O.sink output.new)) result }
 {
     match check_key(words) {
         Some(key) => check(alloc, &key, keys, input, output),

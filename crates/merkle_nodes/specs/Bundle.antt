@@ -24,6 +24,7 @@ magic = codes "HCPROOF1"
 abbrev pub twig_spelling : Twig → List ℕ
 twig_spelling twig = u64_bytes twig.size ++ twig.hash
 
+-- the same of a node, whose number follows from its place
 abbrev pub node_spelling : Node → List ℕ
 node_spelling node = u64_bytes node.size ++ node.hash
 
@@ -44,6 +45,7 @@ pub record TwigFits (twig : Twig) : Type 0 where
   pub size : twig.size ≤ MAX_CORE_BYTES
   pub hash : length twig.hash ≡ 32
 
+-- a node's size and hash are in their ranges
 pub record NodeFits (node : Node) : Type 0 where
   pub size : node.size ≤ MAX_CORE_BYTES
   pub hash : length node.hash ≡ 32

@@ -17,6 +17,7 @@ abbrev pub Read : Type 0 → Type 0
 Read A = Result (A × List ℕ) ℕ
 
 infixl 10 ◌>>=◌
+-- the next step, where no field was at fault
 abbrev pub ◌>>=◌ : {A B : Type 0} → Result A ℕ → (A → Result B ℕ) → Result B ℕ
 (Ok x) >>= f = f x
 (Err e) >>= f = Err e
@@ -30,6 +31,7 @@ Gives view (Err bad) read = read ≡ Err bad.left
 unfoldable pub bytes_at : ℕ → List ℕ → Read (List ℕ)
 bytes_at count bytes = if nat_le count (length bytes) then Ok (take count bytes, drop count bytes) else Err (length bytes)
 
+-- a number from low to high
 abbrev pub is_within : ℕ → ℕ → ℕ → Bool
 is_within low high n = nat_le low n && nat_le n high
 
@@ -39,6 +41,7 @@ number_at low high bytes = do
   eight ← bytes_at 8 bytes
   if is_within low high (from_le_bytes w64 eight.0) then Ok (from_le_bytes w64 eight.0, eight.1) else Err (length bytes)
 
+-- the magic bytes, and no others
 unfoldable pub magic_at : List ℕ → Read (List ℕ)
 magic_at bytes = do
   eight ← bytes_at 8 bytes
@@ -54,6 +57,7 @@ start_at bytes = do
   signature ← bytes_at 64 index.1
   Ok (record { fork = fork.0; length = blocks.0; index = index.0; signature = signature.0 }, signature.1)
 
+-- a size and a hash
 unfoldable pub twig_at : List ℕ → Read Twig
 twig_at bytes = do
   size ← number_at 0 MAX_CORE_BYTES bytes

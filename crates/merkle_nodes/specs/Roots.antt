@@ -32,6 +32,7 @@ root_part root = root.hash ++ u64_bytes root.index ++ u64_bytes root.size
 abbrev pub root_input : List Node → List ℕ
 root_input roots = (2 ∷ []) ++ flat_map root_part roots
 
+-- the hash over all roots
 abbrev pub root_hash_of : List Node → List ℕ
 root_hash_of roots = hash_of (root_input roots)
 

@@ -64,6 +64,7 @@ IsBlockUnder roots blocks index block trail = (log : List (List ℕ)) → IsLogU
 abbrev pub HasHash : Twig → Type 0
 HasHash twig = length twig.hash ≡ 32
 
+-- the same of a root
 abbrev pub HasRootHash : Node → Type 0
 HasRootHash root = length root.hash ≡ 32
 

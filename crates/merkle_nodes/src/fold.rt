@@ -13,7 +13,8 @@ pub fn fold_path(index: u64, block: &[u8], trail: &Trail) -> Node
     requires within { index < MAX_COUNT }
     requires block { length block.now ≤ MAX_CORE_BYTES }
     requires trail { AllByRecursion TwigFits trail.now }
-    ensures { result ≡ node_of (length trail.now) (offset_above index trail.now) (fold index block.now trail.now) }
+    ensures { result ≡ node_of (length trail.now) (offset_above index trail.now)
+        (fold index block.now trail.now) }
 {
     let (offset, twig) = fold_twigs(index, leaf_twig(block), trail.as_slice());
     twig.numbered(flat_tree::index(trail.len() as u32, offset))

@@ -2,7 +2,6 @@
 //! proof bundle and writes the block that it proves. `run` is the whole program over streams that it is handed.
 #![tactic(auto)]
 
-mod authority;
 mod check;
 mod line;
 mod outcome;
@@ -11,8 +10,8 @@ mod run;
 mod tests;
 mod words;
 
-use crate::authority::MacKeys;
 use crate::outcome::Outcome;
+use core_keys::MacKeys;
 use outside_traits::{StdSink, StdSource};
 use std::process::ExitCode;
 use std::rt::Env;

@@ -1,39 +1,43 @@
-//! The program's own authority: a keyed hash, for which signer and verifier share the key (docs/FORMATS.md, "Keys").
+//! The program's own authority: a keyed hash, for which signer and verifier share the key.
 ghost use Rattle.std.specs.Prelude.{◌≡◌, ◌++◌, ℕ, List, IsTrue};
-ghost use Rattle.hypercore_cli.specs.Authority.{mac_signature_of, mac_accepts, mac_public_of};
+ghost use Rattle.core_keys.specs.Keys.{mac_signature_of, mac_accepts, mac_public_of};
 
-use blake2b_hash::{Blake2b, hash256_pair};
+use crate::keyed::hasher;
+use blake2b_hash::{MAX_OUT_BYTES, hash256_pair};
 use outside_traits::{Keys, Signer, Verifier};
+use std::marker::Model;
 
-/// Signs with the hash of 64 bytes under its key, and accepts exactly that.
-#[derive(Clone, Copy)]
+/// Signs with the hash of 64 bytes under its key, and accepts exactly that. Contracts see it as its key.
+#[derive(Drop)]
 pub struct MacAuth {
     key: [u8; 32],
+}
+
+impl Model for MacAuth {
+    ghost Value = { List ℕ };
+
+    ghost view = { λ auth. auth.key };
 }
 
 impl MacAuth {
     /// The authority of a key.
     pub fn new(key: &[u8; 32]) -> MacAuth
-        ensures { result.key ≡ key.now }
+        ensures { result ≡ key.now }
     {
         MacAuth { key: *key }
     }
 
     fn signature(&self, text: &[u8; 80]) -> [u8; 64]
-        ensures { result ≡ mac_signature_of self.now.key text.now }
+        ensures { result ≡ mac_signature_of self.now text.now }
     {
-        match Blake2b::new(64, &self.key) {
-            Ok(mut hasher) => {
-                hasher.update(text);
-                hasher.finalize()
-            }
-            Err(_) => unreachable!(),
-        }
+        let mut hasher = hasher(MAX_OUT_BYTES, &self.key);
+        hasher.update(text);
+        hasher.finalize()
     }
 }
 
 impl Verifier for MacAuth {
-    ghost accepts = { λ auth. mac_accepts auth.key };
+    ghost accepts = { λ auth. mac_accepts auth };
 
     fn verify(&self, text: &[u8; 80], signature: &[u8; 64]) -> bool {
         self.signature(text) == *signature

@@ -1,5 +1,5 @@
 -- What was read into the place for a bundle, and what its check comes to.
-use Rattle.std.proofs.Common.{◌≡◌, ℕ, ◌<◌, ◌≤◌, ◌⊎◌, List, length, take, ◌++◌, drop, Ok, inl, inr, refl, sym, ap, ◌∙◌, subst, arith}
+use Rattle.std.proofs.Common.{◌≡◌, ℕ, ◌+◌, ◌<◌, ◌≤◌, ◌⊎◌, List, length, take, ◌++◌, drop, Ok, inl, inr, refl, sym, ap, ◌∙◌, subst, arith}
 use Rattle.std.proofs.lemmas.List.{length-take-le}
 use Rattle.std.proofs.Math.Seq.{take_at}
 use Rattle.std.specs.Io.KnownBytes.{IsAtEnd}
@@ -13,11 +13,12 @@ use Rattle.hypercore_cli.specs.Runs.{Run, HasRead, key_accepts, ChecksBytes, Che
 pub written_over : (old new : List ℕ) → length new ≡ length old → take (length old) (new ++ drop (length new) old) ≡ new
 written_over old new same = take_at new (drop (length new) old) (length old) same
 
-pub HasRead-fills : {E : Type 0} (r : Run) (count : ℕ) (into : List ℕ) → MAX_BUNDLE_BYTES < length into
+pub HasRead-fills : {E : Type 0} (r : Run) (count : ℕ) (into : List ℕ) → MAX_BUNDLE_BYTES < length into → length into ≤ MAX_BUNDLE_BYTES + 1
     → Fills {E = E} r.input r.input_now (Ok count) into → HasRead r (take count into)
-HasRead-fills r count into room fills =
+HasRead-fills r count into room most fills =
     let size : length (take count into) ≡ count = length-take-le count into fills.within in
     record {
+      few = omega (arith, size, fills.within, most);
       told = fills.left;
       whole = elim fills.full_or_end [ inl full ↦ inl (omega (arith, size, full, room)) | inr end ↦ inr end ];
     }

@@ -1,5 +1,5 @@
 -- What one run of the program may do: how each end of it comes about.
-use Rattle.std.specs.Prelude.{◌≡◌, ℕ, ◌<◌, ◌⊎◌, Bool, List, [], ◌++◌, length, map, Ok, Option, None, Some, IsTrue, IsFalse, String, string_bytes}
+use Rattle.std.specs.Prelude.{◌≡◌, ℕ, ◌+◌, ◌<◌, ◌≤◌, ◌⊎◌, Bool, List, [], ◌++◌, length, map, Ok, Option, None, Some, IsTrue, IsFalse, String, string_bytes}
 use Rattle.std.specs.declared.alloc.Global.{Global}
 use Rattle.std.specs.Result.{result_unwrap_or}
 use Rattle.std.specs.Io.KnownBytes.{Keeps, Appends, Consumes, IsAtEnd}
@@ -42,8 +42,10 @@ run_of words accepts input input_now output output_now =
 abbrev pub key_accepts : Run → List ℕ → List ℕ → Bool
 key_accepts r = r.accepts (key_of r.words)
 
--- these bytes were read, which are the input's next ones where it tells: to its end, or more than any bundle has
+-- these bytes were read, at most one more than the largest bundle has, which are the input's next ones where it tells:
+-- to its end, or more than any bundle has
 pub record HasRead (r : Run) (bytes : List ℕ) : Type 0 where
+  pub few : length bytes ≤ MAX_BUNDLE_BYTES + 1
   pub told : Consumes r.input.left r.input_now.left bytes
   pub whole : (MAX_BUNDLE_BYTES < length bytes) ⊎ IsAtEnd r.input_now.left
 

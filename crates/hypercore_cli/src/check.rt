@@ -1,5 +1,5 @@
 //! The command `check KEY`.
-ghost use Rattle.std.specs.Prelude.{◌≡◌, ◌<◌, ℕ, List};
+ghost use Rattle.std.specs.Prelude.{◌≡◌, ◌<◌, ◌≤◌, ◌+◌, ℕ, List};
 ghost use Rattle.hypercore_cli.specs.Runs.{run_of, key_of, ChecksTo, ChecksBytes};
 
 use crate::outcome::Outcome;
@@ -32,7 +32,8 @@ fn check_within<K: Keys, I: Source, O: Sink>(
     input: &mut I,
     output: &mut O,
 ) -> Outcome
-    requires { MAX_BUNDLE_BYTES < room }
+    requires more { MAX_BUNDLE_BYTES < room }
+    requires most { room ≤ MAX_BUNDLE_BYTES + 1 }
     ensures { (words : List (List ℕ)) → key.now ≡ key_of words
         → ChecksTo (run_of words (K.key_accepts keys.now) (I.source input.old) (I.source input.new)
         (O.sink output.old) (O.sink output.new)) result }

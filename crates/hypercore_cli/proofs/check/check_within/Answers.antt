@@ -1,4 +1,4 @@
-use Rattle.std.proofs.Common.{◌≡◌, ℕ, ◌<◌, length, take, sym, ap, ◌∙◌, subst, arith}
+use Rattle.std.proofs.Common.{◌≡◌, ℕ, ◌+◌, ◌<◌, ◌≤◌, length, take, sym, ap, ◌∙◌, subst, arith}
 use Rattle.std.proofs.lemmas.List.{length-replicate}
 use Rattle.merkle_nodes.specs.declared.reading.TheConstants.{MAX_BUNDLE_BYTES}
 use Rattle.hypercore_cli.specs.Runs.{run_of}
@@ -11,9 +11,10 @@ returns-in-Ok-fill g c = λ words key_is.
     let count = c.in-Ok-fill.count in
     let long : length into ≡ length c.in-Ok.place = c.fill.auto.into ∙ ap length c.bytes_mut.ensures.value in
     let same = c.bytes.ensures ∙ written_over c.in-Ok.place into long in
-    let roomy : MAX_BUNDLE_BYTES < length into = omega (arith, c.requires, long, ap length c.in-Ok.ensures, length-replicate {A = ℕ} c.args.room 0) in
+    let roomy : MAX_BUNDLE_BYTES < length into = omega (arith, c.requires.more, long, ap length c.in-Ok.ensures, length-replicate {A = ℕ} c.args.room 0) in
+    let most : length into ≤ MAX_BUNDLE_BYTES + 1 = omega (arith, c.requires.most, long, ap length c.in-Ok.ensures, length-replicate {A = ℕ} c.args.room 0) in
     let r = run_of words (g.K.Keys.key_accepts c.args.keys.now) (g.I.Source.source c.args.input.now) (g.I.Source.source c.fill.new.source)
     (g.O.Sink.sink c.args.output.now) (g.O.Sink.sink c.check_bytes.new.output) in
-    let read = HasRead-fills r count into roomy c.in-Ok-fill.ensures.fills in
+    let read = HasRead-fills r count into roomy most c.in-Ok-fill.ensures.fills in
     ChecksTo-bytes r c.check_bytes.result (take count into) read
     (rw (← key_is, ← same) c.check_bytes.ensures)

@@ -1,0 +1,4 @@
+mod Alone
+mod Spellings
+mod StandardFacts
+mod Steps

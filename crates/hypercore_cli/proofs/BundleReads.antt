@@ -1,9 +1,8 @@
 -- What was read into the place for a bundle, and what its check comes to.
-use Rattle.std.proofs.Common.{◌≡◌, ℕ, ◌+◌, ◌<◌, ◌≤◌, ◌⊎◌, List, length, take, ◌++◌, drop, Ok, inl, inr, refl, sym, ap, ◌∙◌, subst, arith}
+use Rattle.std.proofs.Common.{◌≡◌, ℕ, ◌+◌, ◌<◌, ◌≤◌, List, length, take, ◌++◌, drop, Ok, inl, inr, arith}
 use Rattle.std.proofs.lemmas.List.{length-take-le}
 use Rattle.std.proofs.Math.Seq.{take_at}
-use Rattle.std.specs.Io.KnownBytes.{IsAtEnd}
-use Rattle.outside_traits.specs.Streams.{SourceView, SinkView, Fills}
+use Rattle.outside_traits.specs.Streams.{Fills}
 use Rattle.merkle_nodes.specs.declared.reading.TheConstants.{MAX_BUNDLE_BYTES}
 use Rattle.hypercore_cli.specs.declared.outcome.Outcome.{Outcome}
 use Rattle.hypercore_cli.specs.declared.outcome.Outcome.TheVariants.{Done, Usage, ReadFault, WriteFault, BadForm, NotProved, BadSignature, NoMemory}

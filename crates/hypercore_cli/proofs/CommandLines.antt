@@ -1,18 +1,16 @@
 -- Which words of two are a command line.
-use Rattle.std.proofs.Common.{◌≡◌, ◌<◌, ℕ, Bool, true, false, ◌&&◌, ◌||◌, not, eqb, List, [], ◌∷◌, length, codes, Result, Ok, Err, refl, sym, ap, ◌∙◌, subst, arith, String, string_bytes}
-use Rattle.std.specs.Prelude.{Option, None, Some, IsTrue, IsFalse, IsOk}
+use Rattle.std.proofs.Common.{◌≡◌, ◌<◌, ℕ, Bool, true, false, ◌&&◌, ◌||◌, not, eqb, List, [], ◌∷◌, length, codes, Result, Ok, Err, refl, sym, ap, subst, arith}
+use Rattle.std.specs.Prelude.{None, IsOk}
 use Rattle.std.specs.Result.{result_ok, result_unwrap_or}
 use Rattle.std.specs.Str.{bytes_eq}
-use Rattle.std.specs.List.{list_all, AllPass}
-use Rattle.std.specs.declared.alloc.Global.{Global}
+use Rattle.std.specs.List.{list_all}
 use Rattle.std.proofs.lemmas.Bool.{and_parts, and_from, false_from_ne_true, eqb-true, eq-eqb}
 use Rattle.std.proofs.lemmas.List.Sums.{AllPass-from_list_all, list_all-from_AllPass}
-use Rattle.std.proofs.lemmas.Slice.Eq.{bytes_eq-Decides}
 use Rattle.hex.specs.Hex.{is_hex_digit, decode_sized}
 use Rattle.hex.specs.declared.FromHexError.{FromHexError}
 use Rattle.hex.proofs.HexLemmas.{IsOk-decode_sized}
 use Rattle.hypercore_cli.specs.Words.{is_well_formed, is_plain}
-use Rattle.hypercore_cli.specs.Runs.{texts, IsKeyOf}
+use Rattle.hypercore_cli.specs.Runs.{IsKeyOf}
 
 -- what a word has to be behind `check`
 abbrev is_key : List ℕ → Bool

@@ -1,7 +1,6 @@
-use Rattle.std.proofs.Common.{◌≡◌, [], ◌∷◌, true, not, codes, sym, ap, subst, ◌∙◌}
+use Rattle.std.proofs.Common.{◌≡◌, true, codes}
 use Rattle.std.specs.Str.{bytes_eq}
 use Rattle.std.proofs.lemmas.Slice.Eq.{bytes_eq-Decides}
-use Rattle.hypercore_cli.specs.Runs.{IsKeyOf}
 use Rattle.hypercore_cli.proofs.CommandLines.{IsKeyOf-read, true_unless_not}
 use Rattle.hypercore_cli.proofs.words.key_behind.Goals as goal
 

@@ -2,6 +2,7 @@ pub mod Tree
 pub mod Roots
 pub mod Fold
 pub mod Sound
+pub mod Joined
 pub mod Bundle
 pub mod Reading
 pub mod View

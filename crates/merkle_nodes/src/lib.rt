@@ -5,6 +5,7 @@
 mod bundle;
 mod check;
 mod fold;
+mod limit;
 mod node;
 mod reading;
 mod roots;
@@ -13,6 +14,7 @@ mod tests;
 
 pub use check::{BundleFault, Opened, check_bundle};
 pub use fold::fold_path;
-pub use node::{Node, Roots, Trail, Twig, leaf, parent};
+pub use limit::{Info, Limit, What};
+pub use node::{Node, Roots, Trail, Twig, Twigs, leaf, parent};
 pub use reading::MAX_BUNDLE_BYTES;
 pub use roots::{Head, root_hash, signable};

@@ -5,7 +5,7 @@ ghost use Rattle.merkle_nodes.specs.Tree.{leaf_of, leaf_input, parent_of, u64_by
 ghost use Rattle.merkle_nodes.specs.Roots.{twig_of, node_of};
 
 use blake2b_hash::Blake2b;
-use flat_tree::{MAX_COUNT, MAX_NODE, MAX_ROOTS, MAX_SIBLINGS, RoomList};
+use flat_tree::{MAX_COUNT, MAX_NODE, MAX_ROOTS, MAX_SIBLINGS, MAX_UPGRADE_NODES, RoomList};
 
 /// The bytes of a hash.
 pub const HASH_BYTES: usize = 32;
@@ -30,6 +30,9 @@ pub type Roots = RoomList<Node, MAX_ROOTS>;
 
 /// The siblings of a path, from the leaf upward.
 pub type Trail = RoomList<Twig, MAX_SIBLINGS>;
+
+/// The subtrees of an upgrade's cover, left to right.
+pub type Twigs = RoomList<Twig, MAX_UPGRADE_NODES>;
 
 impl Node {
     /// Fills free places of a list.

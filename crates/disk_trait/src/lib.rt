@@ -8,7 +8,6 @@ mod files;
 mod fuse;
 mod journal;
 mod memory;
-mod plan;
 mod replay;
 
 pub use disk::{Area, Disk};

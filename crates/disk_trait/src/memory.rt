@@ -8,8 +8,7 @@ ghost use Rattle.disk_trait.specs.Stays.{stays};
 use crate::disk::{Area, Disk};
 use crate::files::Files;
 use crate::journal::{Journal, ROW_BYTES};
-use crate::plan::Plan;
-use outside_traits::{Failed, Memory};
+use outside_traits::{Failed, Memory, Plan};
 use std::alloc::{AllocError, Global};
 use std::marker::Model;
 
@@ -156,7 +155,7 @@ impl Disk for MemDisk {
         ensures fails { IsErr result ↔ IsRefused self.old }
         ensures spends { Spends 0 self.old self.new result }
     {
-        if self.plan.next().is_none() {
+        if self.plan.next_call().is_none() {
             return Err(self.plan.fail());
         }
         Ok(read_from(self.files.of(area), at, into))
@@ -171,7 +170,7 @@ impl Disk for MemDisk {
             ⊎ (self.old.left < ROW_BYTES + length bytes.now)) }
         ensures spends { Spends (ROW_BYTES + length bytes.now) self.old self.new result }
     {
-        let Some(call) = self.plan.next() else {
+        let Some(call) = self.plan.next_call() else {
             return Err(self.plan.fail());
         };
         if !is_within(at, bytes.len(), self.room.bytes) || !self.journal.has_room(bytes.len()) {
@@ -193,7 +192,7 @@ impl Disk for MemDisk {
         ensures fails { IsErr result ↔ (IsRefused self.old ⊎ (self.old.left < ROW_BYTES)) }
         ensures spends { Spends ROW_BYTES self.old self.new result }
     {
-        let Some(call) = self.plan.next() else {
+        let Some(call) = self.plan.next_call() else {
             return Err(self.plan.fail());
         };
         if !self.journal.has_room(0) {
@@ -211,7 +210,7 @@ impl Disk for MemDisk {
         ensures fails { IsErr result ↔ (IsRefused self.old ⊎ (self.old.left < ROW_BYTES)) }
         ensures spends { Spends ROW_BYTES self.old self.new result }
     {
-        let Some(call) = self.plan.next() else {
+        let Some(call) = self.plan.next_call() else {
             return Err(self.plan.fail());
         };
         if !self.journal.has_room(0) {
@@ -228,7 +227,7 @@ impl Disk for MemDisk {
         ensures fails { IsErr result ↔ IsRefused self.old }
         ensures spends { Spends 0 self.old self.new result }
     {
-        if self.plan.next().is_none() {
+        if self.plan.next_call().is_none() {
             return Err(self.plan.fail());
         }
         Ok(self.files.of(area).len() as u64)

@@ -1,3 +1,10 @@
+mod Cutting
 mod Filling
 mod Giving
+pub mod LineLemmas
+pub mod LinesSoFar
+mod Lying
+mod Reading
+mod Refilling
+mod StandardFacts
 mod Writing

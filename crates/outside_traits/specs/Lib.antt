@@ -1,5 +1,9 @@
+pub mod Blobs
 pub mod Faults
 pub mod Lending
+pub mod LineCalls
+pub mod LinePlaces
+pub mod Lines
 pub mod Memory
 pub mod Plain
 pub mod Standard

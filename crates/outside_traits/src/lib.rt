@@ -5,7 +5,9 @@
 
 mod auth;
 mod blob;
+mod blobs;
 mod failed;
+mod lines;
 mod memory;
 mod plan;
 mod sink;
@@ -17,8 +19,11 @@ mod tests;
 
 pub use auth::{Keys, PlainAuth, Signer, Verifier};
 pub use blob::Blob;
+pub use blobs::Blobs;
 pub use failed::{Failed, Memory};
+pub use lines::{LineFault, Lines};
 pub use memory::{MemSink, MemSource};
+pub use plan::Plan;
 pub use sink::{Sink, write_all};
 pub use source::{Source, fill};
 pub use standard::{StdSink, StdSource};

@@ -1,6 +1,6 @@
 //! Which calls of a form in memory are to fail.
-ghost use Rattle.std.specs.Prelude.{◌≡◌, ◌≤◌, ◌↔◌, IsTrue, Contains, []};
-ghost use Rattle.outside_traits.specs.Faults.{count_fault, Rose};
+ghost use Rattle.std.specs.Prelude.{◌≡◌, ◌≤◌, ◌+◌, ◌-◌, ◌^◌, ◌⊎◌, ◌↔◌, IsTrue, IfSome, IsNone, Contains, []};
+ghost use Rattle.outside_traits.specs.Faults.{count_fault};
 
 use crate::failed::Failed;
 use std::alloc::Global;
@@ -38,6 +38,23 @@ impl Plan {
         let planned = self.calls.contains(&self.made);
         self.made = self.made.saturating_add(1);
         planned
+    }
+
+    /// Counts a call, and gives its number, unless it is to fail or the count is at its type's end.
+    pub fn next_call(&mut self) -> Option<u64>
+        ensures number { IfSome result (λ call. call ≡ self.old.made) }
+        ensures next { IfSome result (λ call. self.new.made ≡ call + 1) }
+        ensures planned { IsNone result
+            ↔ (Contains self.old.calls.items self.old.made ⊎ (self.old.made ≡ 2 ^ 64 - 1)) }
+        ensures made { self.new.made ≡ count_fault self.old.made }
+        ensures calls { self.new.calls.items ≡ self.old.calls.items }
+        ensures faults { self.new.faults ≡ self.old.faults }
+    {
+        let call = self.made;
+        if self.next() || call == u64::MAX {
+            return None;
+        }
+        Some(call)
     }
 
     /// Counts a fault.

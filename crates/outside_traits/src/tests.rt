@@ -1,9 +1,10 @@
 // Each form and each adapter once with ample memory, and with faults.
 
 use crate::{
-    Blob, Failed, MemSink, MemSource, PlainAuth, Signer, Sink, Source, StdSink, StdSource,
-    SureSink, SureSource, Verifier, fill, write_all,
+    Blob, Blobs, Failed, LineFault, Lines, MemSink, MemSource, PlainAuth, Signer, Sink, Source,
+    StdSink, StdSource, SureSink, SureSource, Verifier, fill, write_all,
 };
+use std::alloc::Global;
 use std::io::{Error, ErrorKind, Read, Write};
 use std::test::Fail;
 
@@ -120,4 +121,135 @@ fn plain_authority(rt: HostRuntime) {
         other[at] = 6;
         assert!(rt; !auth.verify(&text, &other), "signature {at}");
     }
+}
+
+#[test]
+fn lists_of_bytes(rt: HostRuntime) -> Result<(), Fail> {
+    let alloc = rt.alloc();
+    let mut blobs = Blobs::new();
+    assert_eq!(rt; blobs.len(), 0);
+    assert!(rt; blobs.flat().is_empty());
+    blobs.clear();
+    blobs.push(alloc, &[])?;
+    blobs.push(alloc, &[1, 2])?;
+    blobs.push(alloc, &[])?;
+    blobs.push(alloc, &[3])?;
+    assert_eq!(rt; blobs.len(), 4);
+    assert!(rt; blobs.get(0).is_empty());
+    assert_eq!(rt; blobs.get(1), [1, 2].as_slice());
+    assert!(rt; blobs.get(2).is_empty());
+    assert_eq!(rt; blobs.get(3), [3].as_slice());
+    assert_eq!(rt; blobs.flat(), [1, 2, 3].as_slice());
+    blobs.clear();
+    assert_eq!(rt; blobs.len(), 0);
+    blobs.push(alloc, &[4])?;
+    assert_eq!(rt; blobs.get(0), [4].as_slice());
+    Ok(())
+}
+
+// Adds the lines up to another answer, which it gives.
+fn gather<S: Source>(
+    alloc: Global,
+    lines: &mut Lines,
+    source: &mut S,
+    blobs: &mut Blobs,
+) -> Result<bool, LineFault> {
+    for _ in 0..8 {
+        if !lines.next(source)? {
+            return Ok(false);
+        }
+        if blobs.push(alloc, lines.line()).is_err() {
+            return Ok(true);
+        }
+    }
+    Ok(true)
+}
+
+#[test]
+fn lines_of_inputs(rt: HostRuntime) -> Result<(), Fail> {
+    let alloc = rt.alloc();
+    let long = Err(LineFault::TooLong);
+    for (input, answer, count, flat) in [
+        (b"".as_slice(), Ok(false), 0, b"".as_slice()),
+        (b"\n".as_slice(), Ok(false), 1, b"".as_slice()),
+        (
+            b"a\n\nfour\nlast".as_slice(),
+            Ok(false),
+            4,
+            b"afourlast".as_slice(),
+        ),
+        (b"four\n".as_slice(), Ok(false), 1, b"four".as_slice()),
+        (b"ab\nafive\ncd\n".as_slice(), long, 1, b"ab".as_slice()),
+        (b"ab\nafive".as_slice(), long, 1, b"ab".as_slice()),
+    ] {
+        let mut source = MemSource::new(alloc, Blob::from_slice(alloc, input)?);
+        let mut lines = Lines::new(alloc, 4)?;
+        let mut blobs = Blobs::new();
+        assert_eq!(rt;
+            gather(alloc, &mut lines, &mut source, &mut blobs),
+            answer,
+            "{input:?}"
+        );
+        assert_eq!(rt; blobs.len(), count, "{input:?}");
+        assert_eq!(rt; blobs.flat(), flat);
+        assert_eq!(rt;
+            gather(alloc, &mut lines, &mut source, &mut blobs),
+            answer,
+            "once more"
+        );
+    }
+    Ok(())
+}
+
+#[test]
+fn fault_in_a_line(rt: HostRuntime) -> Result<(), Fail> {
+    let alloc = rt.alloc();
+    let mut source = MemSource::new(alloc, Blob::from_slice(alloc, b"ab\ncd")?);
+    source.plan_faults([1].to_vec(alloc)?);
+    let mut lines = Lines::new(alloc, 4)?;
+    let mut blobs = Blobs::new();
+    for (answer, flat) in [
+        (Err(LineFault::Failed), b"ab".as_slice()),
+        (Ok(false), b"abcd".as_slice()),
+    ] {
+        assert_eq!(rt; gather(alloc, &mut lines, &mut source, &mut blobs), answer);
+        assert_eq!(rt; blobs.flat(), flat);
+    }
+    Ok(())
+}
+
+/// Gives these bytes one at a time.
+#[derive(Clone, Copy)]
+struct Drip {
+    bytes: [u8; 8],
+    at: usize,
+}
+
+impl Read for Drip {
+    fn read(&mut self, into: &mut [u8]) -> Result<usize, Error> {
+        match (self.bytes.get(self.at), into.first_mut()) {
+            (Some(byte), Some(place)) => {
+                *place = *byte;
+                self.at = self.at.saturating_add(1);
+                Ok(1)
+            }
+            _ => Ok(0),
+        }
+    }
+}
+
+#[test]
+fn lines_of_single_bytes(rt: HostRuntime) -> Result<(), Fail> {
+    let alloc = rt.alloc();
+    let bytes = *b"ab\ncde\nf";
+    let mut source = StdSource::new(Drip { bytes, at: 0 });
+    let mut lines = Lines::new(alloc, 3)?;
+    let mut blobs = Blobs::new();
+    assert_eq!(rt;
+        gather(alloc, &mut lines, &mut source, &mut blobs),
+        Ok(false)
+    );
+    assert_eq!(rt; blobs.len(), 3);
+    assert_eq!(rt; blobs.flat(), b"abcdef".as_slice());
+    Ok(())
 }

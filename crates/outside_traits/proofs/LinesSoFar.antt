@@ -1,0 +1,63 @@
+-- The lines that a loop over a reader of lines has met, and those to come.
+use Rattle.std.proofs.Common.{◌≡◌, ℕ, IsTrue, List, [], ◌∷◌, ◌++◌, true, false, Ok, inl, inr, ◌⊎◌, refl, sym, ap, ◌∙◌, arith, append_assoc, append-nil}
+use Rattle.std.specs.Io.KnownBytes.{Appends, Consumes, IsAtEnd}
+use Rattle.std.proofs.KnownBytes.{Appends-nil, Consumes-nil, Appends-trans, Consumes-trans}
+use Rattle.outside_traits.specs.Streams.{SourceView}
+use Rattle.outside_traits.specs.Lines.{LinesView, lines_of, WantsMore}
+use Rattle.outside_traits.specs.LineCalls.{IsWanted, NextLine, Ends, AllLines}
+use Rattle.outside_traits.proofs.LineLemmas.{lines_of-taken, Ends-kept}
+
+-- these bytes were read, these lines were met, and all lines are these and those of what is ahead and still to come,
+-- which is nothing after an end
+pub record LinesSoFar (first now : SourceView) (old new : LinesView) (met : List (List ℕ)) : Type 0 where
+  pub read : List ℕ
+  pub given : Appends first.given now.given read
+  pub left : Consumes first.left now.left read
+  pub lines : (more : List ℕ) → (IsTrue new.ended → more ≡ []) → lines_of (old.ahead ++ (read ++ more)) ≡ met ++ lines_of (new.ahead ++ more)
+  pub at_end : IsTrue new.ended → IsAtEnd now.left
+
+pub LinesSoFar-start : (source : SourceView) (lines : LinesView) → (IsTrue lines.ended → IsAtEnd source.left) → LinesSoFar source source lines lines []
+LinesSoFar-start source lines at_end = record { read = []; given = Appends-nil source.given; left = Consumes-nil source.left; lines = λ more none. refl; at_end = at_end }
+
+-- after an end nothing is read
+none_read : (lines : LinesView) (read : List ℕ) → (read ≡ []) ⊎ IsWanted lines read → IsTrue lines.ended → read ≡ []
+none_read lines read (inl none) ended = none
+none_read lines read (inr wanted) ended = absurd (grind (arith, wanted.not_ended, ended))
+
+nothing_more : (lines next : LinesView) (source : SourceView) (read more : List ℕ) → (read ≡ []) ⊎ IsWanted lines read → Ends source lines next → (IsTrue next.ended → more ≡ [])
+    → IsTrue lines.ended → read ++ more ≡ []
+nothing_more lines next source read more wanted ends none ended = rw (none_read lines read wanted ended, none (ends.kept ended)) refl
+
+-- one line more
+pub LinesSoFar-next : (first now then_source : SourceView) (old new next : LinesView) (met : List (List ℕ)) → LinesSoFar first now old new met
+    → NextLine now then_source new next (Ok true) → Ends then_source new next → WantsMore new ⊎ (then_source ≡ now) → LinesSoFar first then_source old next (met ++ next.line ∷ [])
+LinesSoFar-next first now then_source old new next met so_far call ends idle = record {
+  read = so_far.read ++ call.read;
+  given = Appends-trans _ _ _ so_far.read call.read so_far.given call.reads.given;
+  left = Consumes-trans _ _ _ so_far.read call.read so_far.left call.reads.left;
+  lines = λ more none.
+      ap (λ l. lines_of (old.ahead ++ l)) (append_assoc so_far.read call.read more)
+      ∙ so_far.lines (call.read ++ more) (nothing_more new next then_source call.read more call.reads.wanted ends none)
+      ∙ ap (λ l. met ++ lines_of l) (sym (append_assoc new.ahead call.read more))
+      ∙ ap (λ l. met ++ l) (lines_of-taken (new.ahead ++ call.read) more next call.hands none)
+      ∙ sym (append_assoc met (next.line ∷ []) (lines_of (next.ahead ++ more)));
+  at_end = Ends-kept now then_source new next so_far.at_end ends idle;
+}
+
+-- none is left
+pub LinesSoFar-end : (first now last : SourceView) (old new next : LinesView) (met : List (List ℕ)) → LinesSoFar first now old new met
+    → NextLine now last new next (Ok false) → Ends last new next → WantsMore new ⊎ (last ≡ now) → AllLines first last old met
+LinesSoFar-end first now last old new next met so_far call ends idle =
+    let rest : new.ahead ++ (call.read ++ []) ≡ [] = ap (λ l. new.ahead ++ l) (append-nil call.read) ∙ call.hands.none in
+    record {
+      read = so_far.read ++ call.read;
+      given = Appends-trans _ _ _ so_far.read call.read so_far.given call.reads.given;
+      left = Consumes-trans _ _ _ so_far.read call.read so_far.left call.reads.left;
+      lines = sym (
+          ap (λ l. lines_of (old.ahead ++ (so_far.read ++ l))) (sym (append-nil call.read))
+          ∙ so_far.lines (call.read ++ []) (nothing_more new next last call.read [] call.reads.wanted ends (λ _. refl))
+          ∙ ap (λ l. met ++ lines_of l) rest
+          ∙ append-nil met
+          );
+      at_end = Ends-kept now last new next so_far.at_end ends idle call.hands.ended;
+    }

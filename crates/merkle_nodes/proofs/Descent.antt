@@ -15,7 +15,7 @@ use Rattle.merkle_nodes.specs.Sound.{HasHash, join_input, fold_inputs, inputs_of
 use Rattle.merkle_nodes.proofs.Inputs.{Contains-first, parent_in, same_or_clash, clash_later, split_same}
 
 -- the first halves end within, where their parent does
-half_ends : (depth offset : ℕ) → end_block_of depth (2 * offset) ≤ end_block_of (suc depth) offset
+pub half_ends : (depth offset : ℕ) → end_block_of depth (2 * offset) ≤ end_block_of (suc depth) offset
 half_ends depth offset = omega (arith, end-suc depth offset, halves_meet depth offset, end_first depth (2 * offset + 1))
 
 -- a tree's hash has 32 bytes

@@ -52,7 +52,7 @@ roots_have_hashes log [] = tt
 roots_have_hashes log (tree ∷ trees) = (tree_has_hash log tree.depth tree.offset, roots_have_hashes log trees)
 
 -- the root over a block, in the roots of a log and as its tree
-log_root : (log : List (List ℕ)) (index depth : ℕ) → index < length log → depth_over (length log) index ≡ depth
+pub log_root : (log : List (List ℕ)) (index depth : ℕ) → index < length log → depth_over (length log) index ≡ depth
     → (slice_get (roots_of log) (place_over (length log) index)
     ≡ Some (node_of depth (index / 2 ^ depth) (tree_of log depth (index / 2 ^ depth))))
     × (end_block_of depth (index / 2 ^ depth) ≤ length log)

@@ -1,5 +1,5 @@
 -- Values of subtrees that are put together of known ones: what an append or an upgrade makes of a tree.
-use Rattle.std.specs.Prelude.{ℕ, zero, suc, ◌+◌, ◌*◌, ◌-◌, ◌<◌, List, [], Option, None, Some, slice_index_or, slice_get, length, nat_le, nat_lt, ◌&&◌, if◌then◌else◌}
+use Rattle.std.specs.Prelude.{ℕ, zero, suc, ◌+◌, ◌*◌, ◌-◌, ◌<◌, List, [], ◌∷◌, Option, None, Some, slice_index_or, slice_get, length, nat_le, nat_lt, nat_eq, ◌&&◌, if◌then◌else◌}
 use Rattle.flat_tree.specs.Subtrees.{Subtree, end_block_of}
 use Rattle.merkle_nodes.specs.declared.node.Twig.{Twig}
 use Rattle.merkle_nodes.specs.Tree.{leaf_of, parent_of}
@@ -34,3 +34,15 @@ leaves_from start blocks (suc depth) offset = None
 abbrev pub with_blocks : ℕ → Values → List (List ℕ) → Values
 with_blocks length old blocks depth offset =
     if nat_le (end_block_of depth offset) length then old depth offset else leaves_from length blocks depth offset
+
+-- the value of a subtree that stands in a list, beside a list of their values
+unfoldable pub value_in : List Subtree → List Twig → Values
+value_in (tree ∷ trees) (twig ∷ twigs) depth offset =
+    let rest = value_in trees twigs depth offset in
+    if nat_eq tree.depth depth && nat_eq tree.offset offset then Some twig else rest
+value_in _ _ depth offset = None
+
+-- the old values of the subtrees below a length, and those of subtrees behind it
+abbrev pub with_parts : ℕ → Values → List Subtree → List Twig → Values
+with_parts length old trees twigs depth offset =
+    if nat_le (end_block_of depth offset) length then old depth offset else value_in trees twigs depth offset

@@ -3,6 +3,7 @@ pub mod Roots
 pub mod Fold
 pub mod Sound
 pub mod Joined
+pub mod Nodes
 pub mod Bundle
 pub mod Reading
 pub mod View

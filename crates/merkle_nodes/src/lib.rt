@@ -12,9 +12,10 @@ mod roots;
 #[cfg(test)]
 mod tests;
 
+pub use bundle::Bundle;
 pub use check::{BundleFault, Opened, check_bundle};
 pub use fold::fold_path;
 pub use limit::{Info, Limit, What};
 pub use node::{Node, Roots, Trail, Twig, Twigs, leaf, parent};
-pub use reading::MAX_BUNDLE_BYTES;
+pub use reading::{MAGIC, MAX_BUNDLE_BYTES, NUMBER_BYTES, START_BYTES, Start, TWIG_BYTES};
 pub use roots::{Head, root_hash, signable};

@@ -13,15 +13,15 @@ use flat_tree::{
 };
 
 /// The bytes that each bundle begins with.
-const MAGIC: &[u8; 8] = b"HCPROOF1";
+pub const MAGIC: &[u8; 8] = b"HCPROOF1";
 /// The bytes of a number.
-const NUMBER_BYTES: usize = 8;
+pub const NUMBER_BYTES: usize = 8;
 /// The bytes of a signature.
 const SIGNATURE_BYTES: usize = 64;
 /// The bytes of a bundle up to its roots: the magic bytes, three numbers and a signature.
-const START_BYTES: usize = 8 + 3 * NUMBER_BYTES + SIGNATURE_BYTES;
+pub const START_BYTES: usize = 8 + 3 * NUMBER_BYTES + SIGNATURE_BYTES;
 /// The bytes of a root or a twig: a size and a hash.
-const TWIG_BYTES: usize = NUMBER_BYTES + HASH_BYTES;
+pub const TWIG_BYTES: usize = NUMBER_BYTES + HASH_BYTES;
 /// The most roots and twigs that a bundle has: a log of the most blocks has one root and the most siblings, and any
 /// shorter one has no more roots than digits, and fewer siblings.
 const MAX_TWIGS: usize = MAX_ROOTS + MAX_SIBLINGS - 1;

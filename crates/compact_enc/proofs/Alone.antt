@@ -3,9 +3,9 @@ use Rattle.std.proofs.Common.{◌≡◌, ℕ, ◌-◌, ◌^◌, ◌<◌, ◌≤�
 use Rattle.std.specs.Prelude.{IfOk}
 use Rattle.compact_enc.specs.declared.fields.EncFault.{EncFault}
 use Rattle.compact_enc.specs.Spelling.{uint_spelling, buffer_spelling}
-use Rattle.compact_enc.specs.Reading.{Read, Gives, bytes_at, uint_at, buffer_at}
+use Rattle.compact_enc.specs.Reading.{IsBytes, Read, Gives, bytes_at, uint_at, buffer_at}
 use Rattle.compact_enc.specs.Input.{Yields}
-use Rattle.compact_enc.proofs.Steps.{IsBytes, if_more, Took, bytes_take}
+use Rattle.compact_enc.proofs.Steps.{if_more, Took, bytes_take}
 use Rattle.compact_enc.proofs.Spellings.{uint_takes, uint_again, buffer_takes, buffer_again}
 
 abbrev ok_or : {A : Type 0} → A → Result A EncFault → A
@@ -44,6 +44,10 @@ yields_given view (Err fault) read y gives is =
 pub uint_found : (max at : ℕ) (bytes : List ℕ) → IsBytes bytes → IfOk (uint_at max at bytes) (λ x. bytes ≡ uint_spelling x.0 ++ x.1)
 uint_found max at bytes fits =
     if_more (uint_at max at bytes) (λ x. Took bytes (uint_spelling x.0) x.1 × (x.0 ≤ max)) _ (uint_takes max at bytes fits) (λ x took. took.0.parts)
+
+pub uint_within : (max at : ℕ) (bytes : List ℕ) → IsBytes bytes → IfOk (uint_at max at bytes) (λ x. x.0 ≤ max)
+uint_within max at bytes fits =
+    if_more (uint_at max at bytes) (λ x. Took bytes (uint_spelling x.0) x.1 × (x.0 ≤ max)) _ (uint_takes max at bytes fits) (λ x took. took.1)
 
 pub bytes_found : (count at : ℕ) (bytes : List ℕ) → IsBytes bytes → IfOk (bytes_at count at bytes) (λ x. bytes ≡ x.0 ++ x.1)
 bytes_found count at bytes fits =

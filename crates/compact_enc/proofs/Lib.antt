@@ -1,4 +1,6 @@
 mod Alone
-mod Spellings
+pub mod Inputs
+pub mod Spellings
 mod StandardFacts
-mod Steps
+pub mod Steps
+pub mod Writing

@@ -7,8 +7,8 @@ use Rattle.std.proofs.lemmas.Nat.{le_bytes_2, le_bytes_4, le_bytes_8, from_le_by
 use Rattle.compact_enc.specs.declared.marks.TheConstants.{MARK_U16, MARK_U32, MARK_U64, LEAST_U16, LEAST_U32, LEAST_U64}
 use Rattle.compact_enc.specs.declared.fields.EncFault.TheVariants.{NotShortest, TooLarge}
 use Rattle.compact_enc.specs.Spelling.{uint_spelling, buffer_spelling}
-use Rattle.compact_enc.specs.Reading.{bytes_at, checked, wide_at, uint_at, buffer_at}
-use Rattle.compact_enc.proofs.Steps.{IsBytes, if_read, if_more, if_passed, if_chosen, Took, Took-then, bytes_take, bytes_again}
+use Rattle.compact_enc.specs.Reading.{IsBytes, bytes_at, checked, wide_at, uint_at, buffer_at}
+use Rattle.compact_enc.proofs.Steps.{if_read, if_more, if_passed, if_chosen, Took, Took-then, bytes_take, bytes_again}
 
 -- ---- the four cases of a number's spelling
 

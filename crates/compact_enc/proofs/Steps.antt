@@ -1,14 +1,10 @@
 -- Steps of a reader, and bytes as they are.
-use Rattle.std.proofs.Common.{◌≡◌, ℕ, ◌+◌, ◌<◌, Bool, true, false, cond, leb, List, ◌++◌, length, get_or, take, drop, Result, Ok, Err, refl, sym, ap, subst, ◌∙◌, append_assoc, arith, inl, inr}
+use Rattle.std.proofs.Common.{◌≡◌, ℕ, ◌+◌, Bool, true, false, cond, leb, List, ◌++◌, length, take, drop, Result, Ok, Err, refl, sym, ap, subst, ◌∙◌, append_assoc, arith, inl, inr}
 use Rattle.std.specs.Prelude.{IfOk}
 use Rattle.std.proofs.lemmas.Bool.{cases_lt, leb-true, le-leb}
 use Rattle.std.proofs.lemmas.List.{take_at, drop_at, take-append-drop, length-append, length-take, length-take-le, get_or-drop, get_or-take, get_or_past}
-use Rattle.compact_enc.specs.declared.fields.EncFault.{EncFault}
 use Rattle.compact_enc.specs.declared.fields.EncFault.TheVariants.{Short}
-use Rattle.compact_enc.specs.Reading.{◌>>=◌, Gives, bytes_at}
-
-abbrev pub IsBytes : List ℕ → Type 0
-IsBytes bytes = (i : ℕ) → get_or bytes i 0 < 256
+use Rattle.compact_enc.specs.Reading.{IsBytes, ◌>>=◌, Gives, bytes_at}
 
 IsBytes-drop : (n : ℕ) (bytes : List ℕ) → IsBytes bytes → IsBytes (drop n bytes)
 IsBytes-drop n bytes h i = rw get_or-drop (h (n + i))
@@ -21,33 +17,38 @@ IsBytes-take n bytes h i =
     ]
 
 -- what a reader's value is known to be goes on to the next step
-pub if_read : {A B : Type 0} (r : Result A EncFault) (f : A → Result B EncFault) (P : A → Type 0) (Q : B → Type 0)
+pub if_read : {A B E : Type 0} (r : Result A E) (f : A → Result B E) (P : A → Type 0) (Q : B → Type 0)
     → IfOk r P → ((x : A) → P x → IfOk (f x) Q) → IfOk (r >>= f) Q
 if_read (Ok x) f P Q p next = next x p
 if_read (Err fault) f P Q p next = tt
 
 -- what is known of a reader's value, said otherwise
-pub if_more : {A : Type 0} (r : Result A EncFault) (P Q : A → Type 0) → IfOk r P → ((x : A) → P x → Q x) → IfOk r Q
+pub if_more : {A E : Type 0} (r : Result A E) (P Q : A → Type 0) → IfOk r P → ((x : A) → P x → Q x) → IfOk r Q
 if_more (Ok x) P Q p next = next x p
 if_more (Err fault) P Q p next = tt
 
 -- a test that has to be passed
-pub if_test : {A : Type 0} (b : Bool) (x : A) (fault : EncFault) (P : A → Type 0) → (b ≡ true → P x) → IfOk {E = EncFault} (cond b (Ok x) (Err fault)) P
+pub if_test : {A E : Type 0} (b : Bool) (x : A) (fault : E) (P : A → Type 0) → (b ≡ true → P x) → IfOk {E = E} (cond b (Ok x) (Err fault)) P
 if_test true x fault P h = h refl
 if_test false x fault P h = tt
 
+-- a reader behind a test that has to be passed
+pub if_kept : {A E : Type 0} (b : Bool) (r : Result A E) (fault : E) (P : A → Type 0) → (b ≡ true → IfOk r P) → IfOk {E = E} (cond b r (Err fault)) P
+if_kept true r fault P h = h refl
+if_kept false r fault P h = tt
+
 -- a test that has to fail
-pub if_passed : {A : Type 0} (b : Bool) (r : Result A EncFault) (fault : EncFault) (P : A → Type 0) → (b ≡ false → IfOk r P) → IfOk {E = EncFault} (cond b (Err fault) r) P
+pub if_passed : {A E : Type 0} (b : Bool) (r : Result A E) (fault : E) (P : A → Type 0) → (b ≡ false → IfOk r P) → IfOk {E = E} (cond b (Err fault) r) P
 if_passed true r fault P h = tt
 if_passed false r fault P h = h refl
 
 -- two readers, one of which is chosen
-pub if_chosen : {A : Type 0} (b : Bool) (r s : Result A EncFault) (P : A → Type 0) → (b ≡ true → IfOk r P) → (b ≡ false → IfOk s P) → IfOk {E = EncFault} (cond b r s) P
+pub if_chosen : {A E : Type 0} (b : Bool) (r s : Result A E) (P : A → Type 0) → (b ≡ true → IfOk r P) → (b ≡ false → IfOk s P) → IfOk {E = E} (cond b r s) P
 if_chosen true r s P first second = first refl
 if_chosen false r s P first second = second refl
 
 -- what holds of what reading gives holds of what a reader returned
-pub if_given : {X Y : Type 0} (view : X → Y) (r : Result X EncFault) (read : Result Y EncFault) (P : Y → Type 0)
+pub if_given : {X Y E : Type 0} (view : X → Y) (r : Result X E) (read : Result Y E) (P : Y → Type 0)
     → Gives view r read → IfOk read P → IfOk r (λ x. P (view x))
 if_given view (Ok x) read P gives p = subst (λ s. IfOk s P) gives p
 if_given view (Err fault) read P gives p = tt

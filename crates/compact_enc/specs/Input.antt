@@ -29,11 +29,11 @@ abbrev pub buffer_of : ℕ → Input → Result (List ℕ × Input) EncFault
 buffer_of max input = field_of input (buffer_at max input.place input.rest)
 
 -- what a call returned, seen by view, and the input that it left are what reading gives; a fault leaves the input as it was
-abbrev pub Reads : {X Y : Type 0} → (X → Y) → Input → Input → Result X EncFault → Result (Y × Input) EncFault → Type 0
+abbrev pub Reads : {X Y E : Type 0} → (X → Y) → Input → Input → Result X E → Result (Y × Input) E → Type 0
 Reads view old new (Ok x) read = read ≡ Ok (view x, new)
 Reads view old new (Err fault) read = (read ≡ Err fault) × (new ≡ old)
 
 -- the call returned this value
-abbrev pub Yields : {X Y : Type 0} → (X → Y) → Result X EncFault → Y → Type 0
+abbrev pub Yields : {X Y E : Type 0} → (X → Y) → Result X E → Y → Type 0
 Yields view (Ok x) y = view x ≡ y
 Yields view (Err fault) y = ⊥

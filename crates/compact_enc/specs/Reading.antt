@@ -1,9 +1,13 @@
 -- Reading one field that begins at a place: its value and the bytes behind it, or the first fault.
-use Rattle.std.specs.Prelude.{◌≡◌, ℕ, ◌^◌, ◌-◌, List, [], ◌∷◌, length, take, drop, Result, Ok, Err, nat_le, nat_lt, ◌==◌, if◌then◌else◌}
+use Rattle.std.specs.Prelude.{◌≡◌, ◌<◌, ℕ, ◌^◌, ◌-◌, List, [], ◌∷◌, length, get_or, take, drop, Result, Ok, Err, nat_le, nat_lt, ◌==◌, if◌then◌else◌}
 use Rattle.std.specs.Int.{Width, w16, w32, w64, byte_len, from_le_bytes}
 use Rattle.compact_enc.specs.declared.marks.TheConstants.{MARK_U16, MARK_U32, LEAST_U16, LEAST_U32, LEAST_U64}
 use Rattle.compact_enc.specs.declared.fields.EncFault.{EncFault}
 use Rattle.compact_enc.specs.declared.fields.EncFault.TheVariants.{Short, NotShortest, TooLarge}
+
+-- each is a byte
+abbrev pub IsBytes : List ℕ → Type 0
+IsBytes bytes = (i : ℕ) → get_or bytes i 0 < 256
 
 -- a field's value and the bytes after it, or its fault
 abbrev pub Read : Type 0 → Type 0
@@ -11,12 +15,12 @@ Read A = Result (A × List ℕ) EncFault
 
 infixl 10 ◌>>=◌
 -- the next step, where no field was at fault
-abbrev pub ◌>>=◌ : {A B : Type 0} → Result A EncFault → (A → Result B EncFault) → Result B EncFault
+abbrev pub ◌>>=◌ : {A B E : Type 0} → Result A E → (A → Result B E) → Result B E
 (Ok x) >>= f = f x
 (Err e) >>= f = Err e
 
 -- what a reader returned, seen by view, is what reading gives
-abbrev pub Gives : {X Y : Type 0} → (X → Y) → Result X EncFault → Result Y EncFault → Type 0
+abbrev pub Gives : {X Y E : Type 0} → (X → Y) → Result X E → Result Y E → Type 0
 Gives view (Ok x) read = read ≡ Ok (view x)
 Gives view (Err fault) read = read ≡ Err fault
 

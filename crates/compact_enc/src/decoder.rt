@@ -1,7 +1,7 @@
 //! A decoder: fields from the front of an input, each in its one spelling.
 ghost use Rattle.std.specs.Prelude.{◌≡◌, ◌≤◌, ◌<◌, ◌^◌, ◌+◌, ℕ, List, ◌++◌, length, IfOk};
 ghost use Rattle.compact_enc.specs.Spelling.{uint_spelling, buffer_spelling};
-ghost use Rattle.compact_enc.specs.Reading.{Gives, bytes_at, uint_at, buffer_at};
+ghost use Rattle.compact_enc.specs.Reading.{Gives, IsBytes, bytes_at, uint_at, buffer_at};
 ghost use Rattle.compact_enc.specs.Input.{Input, Reads, Yields, uint_of, fixed_of, buffer_of};
 
 use crate::fields::{EncFault, buffer_from, bytes_from, uint_from};
@@ -34,10 +34,22 @@ impl<'d> Decoder<'d> {
         }
     }
 
+    /// Another decoder of what is left, to read ahead with.
+    pub fn copy(&self) -> Decoder<'d>
+        ensures same { result ≡ self.now }
+        ensures bytes { IsBytes result.rest }
+    {
+        Decoder {
+            rest: as_bytes(self.rest),
+            place: self.place,
+        }
+    }
+
     /// The next number, of at most `max`.
     pub fn uint(&mut self, max: u64) -> Result<u64, EncFault>
         // What is read is spelled so.
         ensures found { IfOk result (λ n. self.old.rest ≡ uint_spelling n ++ self.new.rest) }
+        ensures within { IfOk result (λ n. n ≤ max) }
         // What is spelled so is read.
         ensures only { (n : ℕ) → (more : List ℕ) → n ≤ max → self.old.rest ≡ uint_spelling n ++ more
             → Yields (λ read. read) result n × (self.new.rest ≡ more) }
@@ -122,9 +134,18 @@ impl<'d> Decoder<'d> {
     }
 }
 
+// The same again, of which it is known that each is a byte.
+fn as_bytes(bytes: &[u8]) -> &[u8]
+    ensures same { result.now ≡ bytes.now }
+    ensures bytes { IsBytes result.now }
+{
+    bytes
+}
+
 // A number, which is spelled in front of what is left.
 fn uint_behind(max: u64, at: usize, bytes: &[u8]) -> Result<(u64, &[u8]), EncFault>
     ensures found { IfOk result (λ x. bytes.now ≡ uint_spelling x.0 ++ x.1.now) }
+    ensures max { IfOk result (λ x. x.0 ≤ max) }
     ensures within { IfOk result (λ x. length x.1.now ≤ length bytes.now) }
     ensures only { (n : ℕ) → (more : List ℕ) → n ≤ max → bytes.now ≡ uint_spelling n ++ more
         → Yields {Y = ℕ × List ℕ} (λ x. (x.0, x.1.now)) result (n, more) }

@@ -77,6 +77,15 @@ impl<'e> Encoder<'e> {
         Ok(())
     }
 
+    /// Takes back what was written from a place on.
+    pub fn back_to(&mut self, place: usize)
+        requires written { place ≤ self.old.place }
+        ensures place { self.new.place ≡ place }
+        ensures same { self.new.into ≡ self.old.into }
+    {
+        self.place = place;
+    }
+
     /// How many bytes were written so far.
     pub fn place(&self) -> usize
         ensures { result ≡ self.now.place }

@@ -1,0 +1,7 @@
+pub mod FieldLaws
+mod FlagLaws
+pub mod ProofLaws
+pub mod RequestLaws
+pub mod TwigLaws
+mod TwigLoop
+mod StandardFacts

@@ -1,0 +1,104 @@
+-- Roots looked up one after the other.
+use Rattle.std.proofs.Common.{◌≡◌, ℕ, Bool, ◌+◌, ◌<◌, ◌≤◌, List, [], ◌∷◌, ◌++◌, length, take, map, get_or, slice_get, option_map, Some, None, refl, sym, ap, subst, ◌∙◌, arith}
+use Rattle.std.specs.Prelude.{Option}
+use Rattle.std.specs.List.{AllByRecursion}
+use Rattle.std.proofs.lemmas.List.{map_push, take_more, take_all}
+use Rattle.std.proofs.lemmas.Option.{slice_get-map, slice_get-get_or}
+use Rattle.flat_tree.specs.Subtrees.{Subtree, number, numbers_of}
+use Rattle.flat_tree.specs.Roots.{full_roots_of}
+use Rattle.flat_tree.specs.declared.limits.TheConstants.{MAX_CORE_BYTES}
+use Rattle.merkle_nodes.specs.declared.node.Node.{Node}
+use Rattle.merkle_nodes.specs.declared.node.Twig.{Twig}
+use Rattle.merkle_nodes.specs.Roots.{twig_of, node_of}
+use Rattle.node_set.specs.Contents.{Values, node_at, roots_at}
+use Rattle.node_set.specs.Closure.{closed_on}
+use Rattle.node_set.specs.Tables.{FitsAsRoot, RootsFit}
+use Rattle.flat_tree.proofs.RootLemmas.{length-numbers}
+use Rattle.node_set.proofs.AppendLemmas.{all_get}
+use Rattle.node_set.proofs.ClosureLemmas.{root_in_closure}
+use Rattle.node_set.proofs.RootTruth.{twig_at-some}
+use Rattle.node_set.proofs.SoundLemmas.{roots_same}
+
+-- what holds of each holds of one more
+all_push : {X : Type 0} (P : X → Type 0) (xs : List X) (x : X) → AllByRecursion P xs → P x → AllByRecursion P (xs ++ x ∷ [])
+all_push P [] x all here = (here, tt)
+all_push P (y ∷ xs) x all here = (all.0, all_push P xs x all.1 here)
+
+-- the nodes are there for these subtrees, and are these
+pub record IsRootsOf (value : Values) (trees : List Subtree) (roots : List Node) : Type 0 where
+  pub nodes : roots ≡ map (λ (tree : Subtree). node_at value tree.depth tree.offset) trees
+  pub sizes : AllByRecursion (λ (node : Node). node.size ≤ MAX_CORE_BYTES) roots
+  pub fit : AllByRecursion (λ (tree : Subtree). FitsAsRoot (value tree.depth tree.offset)) trees
+
+pub roots_none : (value : Values) (trees : List Subtree) (roots : List Node) → roots ≡ [] → IsRootsOf value (take 0 trees) roots
+roots_none value trees roots none = record { nodes = none; sizes = rw none tt; fit = tt }
+
+-- the subtree at a place has the number there
+pub tree_there : (trees : List Subtree) (places : List ℕ) (at index : ℕ) (blank : Subtree) → places ≡ numbers_of trees → at < length trees
+    → slice_get places at ≡ Some index → number (get_or trees at blank).depth (get_or trees at blank).offset ≡ index
+tree_there trees places at index blank is within there =
+    let of_tree = λ (tree : Subtree). number tree.depth tree.offset in
+    let tree = get_or trees at blank in
+    let found : Some (of_tree tree) ≡ Some index =
+    sym (slice_get-map of_tree trees at ∙ ap (λ (o : Option Subtree). option_map of_tree o) (slice_get-get_or trees at blank within)) ∙ sym (ap (λ (xs : List ℕ). slice_get xs at) is) ∙ there in
+    cc
+
+-- the subtree that roots are read at past their end
+abbrev blank_tree : Subtree
+blank_tree = record { depth = 0; offset = 0 }
+
+-- the full root at a place
+abbrev pub root_tree : ℕ → ℕ → Subtree
+root_tree n at = get_or (full_roots_of n) at blank_tree
+
+-- the full roots' numbers stand in these places, one of which is read
+pub record IsRootRead (n : ℕ) (places : List ℕ) (at index : ℕ) : Type 0 where
+  pub numbers : places ≡ numbers_of (full_roots_of n)
+  pub within : at < length places
+  pub there : slice_get places at ≡ Some index
+
+module _ (n : ℕ) (places : List ℕ) (at index : ℕ) (read : IsRootRead n places at index) where
+  inside : at < length (full_roots_of n)
+  inside = omega (arith, read.within, length-numbers places (full_roots_of n) read.numbers)
+
+  pub root_number : number (root_tree n at).depth (root_tree n at).offset ≡ index
+  root_number = tree_there (full_roots_of n) places at index blank_tree read.numbers inside read.there
+
+  -- where the root there doesn't fit, not all do
+  pub root_refused : (value : Values) → RootsFit value n → FitsAsRoot (value (root_tree n at).depth (root_tree n at).offset)
+  root_refused value fit =
+      all_get (λ (tree : Subtree). FitsAsRoot (value tree.depth tree.offset)) (full_roots_of n) at (root_tree n at) fit
+      (slice_get-get_or (full_roots_of n) at blank_tree inside)
+
+  -- one root more
+  pub roots_next : (value : Values) (roots more : List Node) (node : Node) → IsRootsOf value (take at (full_roots_of n)) roots → more ≡ roots ++ node ∷ []
+      → value (root_tree n at).depth (root_tree n at).offset ≡ Some (twig_of node) → node.index ≡ index → node.size ≤ MAX_CORE_BYTES
+      → IsRootsOf value (take (at + 1) (full_roots_of n)) more
+  roots_next value roots more node so_far pushed there numbered size =
+      let tree = root_tree n at in
+      let trees = full_roots_of n in
+      let of_tree = λ (tree : Subtree). node_at value tree.depth tree.offset in
+      let is : node ≡ of_tree tree = ap (λ (i : ℕ). record { index = i; size = node.size; hash = node.hash }) (numbered ∙ sym root_number)
+      ∙ ap (λ (twig : Twig). node_of tree.depth tree.offset twig) (sym (twig_at-some value tree.depth tree.offset (twig_of node) there)) in
+      let taken = take_more trees at blank_tree inside in
+      let nodes : roots ++ node ∷ [] ≡ map of_tree (take (at + 1) trees) =
+      ap (λ (ns : List Node). ns ++ node ∷ []) so_far.nodes
+      ∙ ap (λ (x : Node). map of_tree (take at trees) ++ x ∷ []) is
+      ∙ sym (map_push of_tree (take at trees) tree)
+      ∙ ap (map of_tree) (sym taken) in
+      let fits : FitsAsRoot (value tree.depth tree.offset) = subst FitsAsRoot (sym there) size in
+      record {
+        nodes = pushed ∙ nodes;
+        sizes = subst (AllByRecursion (λ (node : Node). node.size ≤ MAX_CORE_BYTES)) (sym pushed) (all_push (λ (node : Node). node.size ≤ MAX_CORE_BYTES) roots node so_far.sizes size);
+        fit = subst (AllByRecursion (λ (tree : Subtree). FitsAsRoot (value tree.depth tree.offset))) (sym taken)
+            (all_push (λ (tree : Subtree). FitsAsRoot (value tree.depth tree.offset)) (take at trees) tree so_far.fit fits);
+      }
+
+-- all roots
+pub roots_all : (value : Values) (n at : ℕ) (roots : List Node) → length (full_roots_of n) ≤ at → IsRootsOf value (take at (full_roots_of n)) roots
+    → IsRootsOf value (full_roots_of n) roots
+roots_all value n at roots past so_far = subst (λ (trees : List Subtree). IsRootsOf value trees roots) (take_all at (full_roots_of n) past) so_far
+
+-- the roots are among the values of the closure
+pub roots_at-closed : (n : ℕ) (held : ℕ → Bool) (value : Values) → roots_at (closed_on n held value) n ≡ roots_at value n
+roots_at-closed n held value = roots_same n (closed_on n held value) value (λ d o root. rw (root_in_closure n held d o root) refl)

@@ -1,0 +1,14 @@
+pub mod Same
+pub mod Refuses
+pub mod Contents
+pub mod Closure
+pub mod Paths
+pub mod Whole
+pub mod Offsets
+pub mod Evidence
+pub mod Changes
+pub mod Nodes
+pub mod Views
+pub mod Walks
+pub mod Tables
+pub mod TableViews

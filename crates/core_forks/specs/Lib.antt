@@ -1,0 +1,2 @@
+pub mod Reorganise
+pub mod Refusals

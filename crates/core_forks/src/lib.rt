@@ -1,0 +1,2 @@
+//! What takes blocks away: truncation, clearing, and another log under a greater fork.
+#![tactic(auto)]

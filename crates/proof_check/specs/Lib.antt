@@ -1,0 +1,4 @@
+pub mod Upgraded
+pub mod Parts
+pub mod Judge
+pub mod Covering

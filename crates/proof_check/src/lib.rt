@@ -1,0 +1,2 @@
+//! Whether a proof from a stranger is admitted.
+#![tactic(auto)]

@@ -1,5 +1,5 @@
 #!/usr/bin/env python3
-"""Makes the sample bundles of this folder from docs/FORMATS.md alone, with Python's own BLAKE2b.
+"""Makes the samples of this folder from docs/FORMATS.md alone, with Python's own BLAKE2b.
 
 The key is 32 bytes of 0, so KEY is 64 digits 0. Run it in this folder; it writes over the samples.
 """
@@ -75,3 +75,4 @@ write("seven-0.bundle", bundle(seven, 0))
 write("bad-form.bundle", hello + b"\0")
 write("not-proved.bundle", changed(bundle(seven, 0), 224))
 write("bad-signature.bundle", changed(bundle(seven, 6), 32))
+write("seven.lines", b"".join(block + b"\n" for block in seven))

@@ -5,8 +5,9 @@ use Rattle.std.proofs.Math.Seq.{take_at}
 use Rattle.outside_traits.specs.Streams.{Fills}
 use Rattle.merkle_nodes.specs.declared.reading.TheConstants.{MAX_BUNDLE_BYTES}
 use Rattle.hypercore_cli.specs.declared.outcome.Outcome.{Outcome}
-use Rattle.hypercore_cli.specs.declared.outcome.Outcome.TheVariants.{Done, Usage, ReadFault, WriteFault, BadForm, NotProved, BadSignature, NoMemory}
-use Rattle.hypercore_cli.specs.Runs.{Run, HasRead, key_accepts, ChecksBytes, ChecksTo}
+use Rattle.hypercore_cli.specs.declared.outcome.Outcome.TheVariants.{Done, Usage, ReadFault, WriteFault, BadForm, NotProved, BadSignature, OutOfRange, Limit, NoMemory}
+use Rattle.hypercore_cli.specs.Runs.{Run}
+use Rattle.hypercore_cli.specs.Checks.{HasRead, ChecksBytes, ChecksTo}
 
 -- a place that was written over as a whole
 pub written_over : (old new : List ℕ) → length new ≡ length old → take (length old) (new ++ drop (length new) old) ≡ new
@@ -22,13 +23,15 @@ HasRead-fills r count into room most fills =
       whole = elim fills.full_or_end [ inl full ↦ inl (omega (arith, size, full, room)) | inr end ↦ inr end ];
     }
 
-pub ChecksTo-bytes : (r : Run) (outcome : Outcome) (bytes : List ℕ) → HasRead r bytes
-    → ChecksBytes (key_accepts r) bytes r.output r.output_now outcome → ChecksTo r outcome
-ChecksTo-bytes r Done bytes was checks = (bytes, was, checks)
-ChecksTo-bytes r Usage bytes was checks = absurd checks
-ChecksTo-bytes r ReadFault bytes was checks = absurd checks
-ChecksTo-bytes r WriteFault bytes was checks = (bytes, was, checks)
-ChecksTo-bytes r (BadForm at) bytes was checks = (bytes, was, checks)
-ChecksTo-bytes r (NotProved index want have) bytes was checks = (bytes, was, checks)
-ChecksTo-bytes r BadSignature bytes was checks = (bytes, was, checks)
-ChecksTo-bytes r NoMemory bytes was checks = absurd checks
+pub ChecksTo-bytes : (r : Run) (key : List ℕ) (outcome : Outcome) (bytes : List ℕ) → HasRead r bytes
+    → ChecksBytes (r.accepts key) bytes r.output r.output_now outcome → ChecksTo r key outcome
+ChecksTo-bytes r key Done bytes was checks = (bytes, was, checks)
+ChecksTo-bytes r key Usage bytes was checks = absurd checks
+ChecksTo-bytes r key ReadFault bytes was checks = absurd checks
+ChecksTo-bytes r key WriteFault bytes was checks = (bytes, was, checks)
+ChecksTo-bytes r key (BadForm at) bytes was checks = (bytes, was, checks)
+ChecksTo-bytes r key (NotProved index want have) bytes was checks = (bytes, was, checks)
+ChecksTo-bytes r key BadSignature bytes was checks = (bytes, was, checks)
+ChecksTo-bytes r key (OutOfRange end) bytes was checks = absurd checks
+ChecksTo-bytes r key (Limit what max) bytes was checks = absurd checks
+ChecksTo-bytes r key NoMemory bytes was checks = absurd checks

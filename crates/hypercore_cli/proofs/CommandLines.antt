@@ -1,24 +1,15 @@
--- Which words of two are a command line.
+-- Which words are a command line.
 use Rattle.std.proofs.Common.{◌≡◌, ◌<◌, ℕ, Bool, true, false, ◌&&◌, ◌||◌, not, eqb, List, [], ◌∷◌, length, codes, Result, Ok, Err, refl, sym, ap, subst, arith}
-use Rattle.std.specs.Prelude.{None, IsOk}
+use Rattle.std.specs.Prelude.{IsOk}
 use Rattle.std.specs.Result.{result_ok, result_unwrap_or}
-use Rattle.std.specs.Str.{bytes_eq}
 use Rattle.std.specs.List.{list_all}
 use Rattle.std.proofs.lemmas.Bool.{and_parts, and_from, false_from_ne_true, eqb-true, eq-eqb}
 use Rattle.std.proofs.lemmas.List.Sums.{AllPass-from_list_all, list_all-from_AllPass}
 use Rattle.hex.specs.Hex.{is_hex_digit, decode_sized}
 use Rattle.hex.specs.declared.FromHexError.{FromHexError}
 use Rattle.hex.proofs.HexLemmas.{IsOk-decode_sized}
-use Rattle.hypercore_cli.specs.Words.{is_well_formed, is_plain}
-use Rattle.hypercore_cli.specs.Runs.{IsKeyOf}
-
--- what a word has to be behind `check`
-abbrev is_key : List ℕ → Bool
-is_key word = is_plain word && (eqb (length word) 64 && list_all is_hex_digit word)
-
--- two words are a command line exactly where they are `check` and a key
-two_words : (command key : List ℕ) → is_well_formed (command ∷ key ∷ []) ≡ (bytes_eq command (codes "check") && (is_key key && true)) || false
-two_words command key = refl
+use Rattle.hypercore_cli.specs.Words.{Key, is_plain}
+use Rattle.hypercore_cli.specs.Commands.{fits, IsKeyOf}
 
 no_dash : (c : ℕ) → is_hex_digit c ≡ true → not (eqb c 45) ≡ true
 no_dash c digit =
@@ -30,30 +21,18 @@ plain_digits [] some digits = absurd (omega (arith, some))
 plain_digits (c ∷ cs) some digits = no_dash c (and_parts (is_hex_digit c) (list_all is_hex_digit cs) digits).0
 
 -- a word of sixty-four digits is a key, and no other is
-key_from : (word : List ℕ) → IsOk (decode_sized word 32) → is_key word ≡ true
+key_from : (word : List ℕ) → IsOk (decode_sized word 32) → fits Key word ≡ true
 key_from word read =
     let parts = (IsOk-decode_sized word 32).0 read in
     let digits = list_all-from_AllPass is_hex_digit word parts.1 in
     and_from _ _ (plain_digits word (omega (arith, parts.0)) digits) (and_from _ _ (eq-eqb (length word) 64 (omega (arith, parts.0))) digits)
 
-key_only : (word : List ℕ) → is_key word ≡ true → IsOk (decode_sized word 32)
+key_only : (word : List ℕ) → fits Key word ≡ true → IsOk (decode_sized word 32)
 key_only word key =
     let sized = and_parts (eqb (length word) 64) (list_all is_hex_digit word) (and_parts (is_plain word) _ key).1 in
     (IsOk-decode_sized word 32).1 (omega (arith, eqb-true (length word) 64 sized.0), AllPass-from_list_all is_hex_digit word sized.1)
 
--- what the second word is read as behind `check`
-pub IsKeyOf-read : (word : List ℕ) (r : Result (List ℕ) FromHexError) → r ≡ decode_sized word 32 → IsKeyOf (codes "check" ∷ word ∷ []) (result_ok r)
-IsKeyOf-read word (Ok key) is =
-    let yes : is_key word ≡ true = key_from word (subst (λ x. IsOk x) is refl) in
-    (ap (λ b. (b && true) || false) yes, ap (λ x. result_unwrap_or x []) is)
-IsKeyOf-read word (Err e) is =
-    let no : is_key word ≡ false = false_from_ne_true (is_key word) (λ yes. let read : IsOk {T = List ℕ} {E = FromHexError} (Err e) = subst (λ x. IsOk x) (sym is) (key_only word yes) in cc) in
-    ap (λ b. (b && true) || false) no
-
--- a first word that isn't `check`
-pub IsKeyOf-other : (command word : List ℕ) → bytes_eq command (codes "check") ≡ false → IsKeyOf (command ∷ word ∷ []) None
-IsKeyOf-other command word other = ap (λ b. (b && (is_key word && true)) || false) other
-
-pub true_unless_not : (b : Bool) → false ≡ not b → b ≡ true
-true_unless_not true h = refl
-true_unless_not false h = absurd cc
+-- what a word is read as
+pub IsKeyOf-read : (word : List ℕ) (r : Result (List ℕ) FromHexError) → r ≡ decode_sized word 32 → IsKeyOf word (result_ok r)
+IsKeyOf-read word (Ok key) is = (key_from word (subst (λ x. IsOk x) is refl), ap (λ x. result_unwrap_or x []) is)
+IsKeyOf-read word (Err e) is = false_from_ne_true (fits Key word) (λ yes. let read : IsOk {T = List ℕ} {E = FromHexError} (Err e) = subst (λ x. IsOk x) (sym is) (key_only word yes) in cc)

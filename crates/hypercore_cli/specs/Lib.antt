@@ -1,3 +1,9 @@
 pub mod Words
+pub mod Commands
 pub mod Outcomes
 pub mod Runs
+pub mod Checks
+pub mod LineLimits
+pub mod Proves
+pub mod Logs
+pub mod Causes

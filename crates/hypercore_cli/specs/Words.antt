@@ -1,5 +1,5 @@
 -- The command lines that the program takes.
-use Rattle.std.specs.Prelude.{ℕ, ◌&&◌, ◌||◌, ◌+◌, ◌*◌, ◌-◌, Bool, true, false, List, [], ◌∷◌, length, codes, filter, nat_le, ◌==◌, not, fold}
+use Rattle.std.specs.Prelude.{ℕ, ◌&&◌, ◌||◌, ◌+◌, ◌*◌, ◌-◌, Bool, true, false, List, [], ◌∷◌, length, codes, filter, nat_le, ◌==◌, not, fold, slice_index_or}
 use Rattle.std.specs.Str.{bytes_eq}
 use Rattle.std.specs.List.{list_any, list_all}
 use Rattle.hex.specs.Hex.{is_hex_digit}
@@ -41,7 +41,7 @@ rows =
 
 -- the commands that are built so far
 abbrev pub is_built : Row → Bool
-is_built r = bytes_eq r.command (codes "check")
+is_built r = bytes_eq r.command (codes "check") || bytes_eq r.command (codes "prove")
 
 -- a decimal digit
 abbrev pub is_digit : ℕ → Bool
@@ -85,8 +85,6 @@ is_row (command ∷ words) r = bytes_eq command r.command && fits_slots r.slots 
 abbrev pub is_well_formed : List (List ℕ) → Bool
 is_well_formed words = list_any (is_row words) (filter is_built rows)
 
--- the key of a command line, which is its second word
-abbrev pub key_word : List (List ℕ) → List ℕ
-key_word [] = []
-key_word (command ∷ []) = []
-key_word (command ∷ key ∷ words) = key
+-- the word at a place: the command is at 0, and the key at 1
+abbrev pub word_at : ℕ → List (List ℕ) → List ℕ
+word_at place words = slice_index_or words place []

@@ -1,6 +1,7 @@
 //! The command `check KEY`.
-ghost use Rattle.std.specs.Prelude.{◌≡◌, ◌<◌, ◌≤◌, ◌+◌, ℕ, List};
-ghost use Rattle.hypercore_cli.specs.Runs.{run_of, key_of, ChecksTo, ChecksBytes};
+ghost use Rattle.std.specs.Prelude.{◌<◌, ◌≤◌, ◌+◌};
+ghost use Rattle.hypercore_cli.specs.Runs.{run_of};
+ghost use Rattle.hypercore_cli.specs.Checks.{ChecksTo, ChecksBytes};
 
 use crate::outcome::Outcome;
 use merkle_nodes::{BundleFault, MAX_BUNDLE_BYTES, check_bundle};
@@ -16,9 +17,8 @@ pub fn check<K: Keys, I: Source, O: Sink>(
     input: &mut I,
     output: &mut O,
 ) -> Outcome
-    ensures { (words : List (List ℕ)) → key.now ≡ key_of words
-        → ChecksTo (run_of words (K.key_accepts keys.now) (I.source input.old) (I.source input.new)
-        (O.sink output.old) (O.sink output.new)) result }
+    ensures { ChecksTo (run_of (K.key_accepts keys.now) (I.source input.old) (I.source input.new)
+        (O.sink output.old) (O.sink output.new)) key.now result }
 {
     check_within(alloc, MAX_BUNDLE_BYTES + 1, key, keys, input, output)
 }
@@ -34,9 +34,8 @@ fn check_within<K: Keys, I: Source, O: Sink>(
 ) -> Outcome
     requires more { MAX_BUNDLE_BYTES < room }
     requires most { room ≤ MAX_BUNDLE_BYTES + 1 }
-    ensures { (words : List (List ℕ)) → key.now ≡ key_of words
-        → ChecksTo (run_of words (K.key_accepts keys.now) (I.source input.old) (I.source input.new)
-        (O.sink output.old) (O.sink output.new)) result }
+    ensures { ChecksTo (run_of (K.key_accepts keys.now) (I.source input.old) (I.source input.new)
+        (O.sink output.old) (O.sink output.new)) key.now result }
 {
     let mut place = match Blob::zeros(alloc, room) {
         Ok(place) => place,

@@ -2,11 +2,11 @@
 ghost use Rattle.std.specs.Prelude.{◌≡◌, ◌≤◌, ◌<◌, ◌+◌, ◌-◌, ◌^◌, ◌++◌, [], ◌∷◌, ℕ, length, drop, codes};
 ghost use Rattle.std.specs.Fmt.{decimal};
 ghost use Rattle.hex.specs.Hex.{encode_lower};
-ghost use Rattle.hypercore_cli.specs.Outcomes.{line_of, node_text};
+ghost use Rattle.hypercore_cli.specs.Outcomes.{line_of, node_text, what_text};
 
 use crate::outcome::Outcome;
 use flat_tree::RoomList;
-use merkle_nodes::Node;
+use merkle_nodes::{Node, What};
 
 /// The most bytes of a line.
 pub const LINE_BYTES: usize = 240;
@@ -16,6 +16,9 @@ const MOST_DIGITS: usize = 20;
 
 /// The digits of a hash.
 const HASH_DIGITS: usize = 64;
+
+/// The most bytes of the name of a quantity.
+const MOST_NAME_BYTES: usize = 11;
 
 /// A line, or a front of one.
 pub type Line = RoomList<u8, LINE_BYTES>;
@@ -29,9 +32,11 @@ pub fn line(outcome: &Outcome) -> Line
         Outcome::Usage => text_line(b"usage: hypercore_cli COMMAND KEY [NAME] [ARGUMENTS]\n"),
         Outcome::ReadFault => text_line(b"read fault\n"),
         Outcome::WriteFault => text_line(b"write fault\n"),
-        Outcome::BadForm { at } => bad_form_line(*at),
+        Outcome::BadForm { at } => number_line(b"bad form at ", *at as u64),
         Outcome::NotProved { index, want, have } => not_proved_line(*index, want, have),
         Outcome::BadSignature => text_line(b"bad signature\n"),
+        Outcome::OutOfRange { end } => number_line(b"out of range: ", *end),
+        Outcome::Limit { what, max } => limit_line(*what, *max),
         Outcome::NoMemory => text_line(b"no memory\n"),
     }
 }
@@ -45,13 +50,43 @@ fn text_line(text: &[u8]) -> Line
     line
 }
 
-fn bad_form_line(at: usize) -> Line
-    ensures { result ≡ codes "bad form at " ++ decimal at ++ 10 ∷ [] }
+/// A text and a number.
+fn number_line(text: &[u8], number: u64) -> Line
+    requires { length text.now + (MOST_DIGITS + 1) ≤ LINE_BYTES }
+    ensures { result ≡ text.now ++ decimal number ++ 10 ∷ [] }
 {
-    let mut line = text_line(b"bad form at ");
-    put_number(&mut line, at as u64);
+    let mut line = text_line(text);
+    put_number(&mut line, number);
     line.push(b'\n');
     line
+}
+
+fn limit_line(what: What, max: u64) -> Line
+    ensures { result ≡ codes "limit " ++ what_text what ++ codes ": " ++ decimal max ++ 10 ∷ [] }
+{
+    let mut line = text_line(b"limit ");
+    line.extend(text_of(what));
+    line.extend(b": ");
+    put_number(&mut line, max);
+    line.push(b'\n');
+    line
+}
+
+/// The name of a quantity that has a limit.
+fn text_of(what: What) -> &'static [u8]
+    ensures text { result.now ≡ what_text what }
+    ensures room { length result.now ≤ MOST_NAME_BYTES }
+{
+    match what {
+        What::Block => b"block",
+        What::Blocks => b"blocks",
+        What::Bytes => b"bytes",
+        What::Batch => b"batch",
+        What::BatchBytes => b"batch-bytes",
+        What::Fork => b"fork",
+        What::Oplog => b"oplog",
+        What::Commits => b"commits",
+    }
 }
 
 fn not_proved_line(index: u64, want: &Node, have: &Node) -> Line

@@ -1,10 +1,14 @@
 //! `hypercore_cli COMMAND KEY [NAME] [ARGUMENTS]`: a store of signed append-only logs. So far `check KEY`: it reads a
-//! proof bundle and writes the block that it proves. `run` is the whole program over streams that it is handed.
+//! proof bundle and writes the block that it proves; and `prove KEY INDEX`: it reads a log's blocks as lines and writes
+//! the proof bundle of one. `run` is the whole program over streams that it is handed.
 #![tactic(auto)]
 
 mod check;
+mod command;
 mod line;
+mod log;
 mod outcome;
+mod prove;
 mod run;
 #[cfg(test)]
 mod tests;

@@ -1,7 +1,7 @@
 //! How a command ends.
 ghost use Rattle.std.specs.Prelude.{◌≡◌};
 
-use merkle_nodes::Node;
+use merkle_nodes::{Node, What};
 
 /// How a command ends.
 #[derive(Clone, Copy, Debug, PartialEq, Eq)]
@@ -20,6 +20,10 @@ pub enum Outcome {
     NotProved { index: u64, want: Node, have: Node },
     /// The signature on the head isn't accepted.
     BadSignature,
+    /// The index isn't below this end.
+    OutOfRange { end: u64 },
+    /// The quantity would pass its limit, `max`.
+    Limit { what: What, max: u64 },
     /// Want of memory.
     NoMemory,
 }
@@ -39,6 +43,8 @@ impl Outcome {
             Outcome::BadForm { .. } => 7,
             Outcome::NotProved { .. } => 8,
             Outcome::BadSignature => 9,
+            Outcome::OutOfRange { .. } => 12,
+            Outcome::Limit { .. } => 14,
             Outcome::NoMemory => 70,
         }
     }

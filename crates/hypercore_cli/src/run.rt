@@ -2,12 +2,15 @@
 ghost use Rattle.std.specs.Prelude.{◌≡◌, ℕ, List};
 ghost use Rattle.hypercore_cli.specs.declared.outcome.Outcome.{Outcome as End};
 ghost use Rattle.hypercore_cli.specs.Outcomes.{status_of, line_of};
-ghost use Rattle.hypercore_cli.specs.Runs.{run_of, texts, Causes, Prints};
+ghost use Rattle.hypercore_cli.specs.Runs.{run_of, texts, Prints};
+ghost use Rattle.hypercore_cli.specs.Causes.{Causes, EndsSo};
 
 use crate::check::check;
+use crate::command::Command;
 use crate::line::line;
 use crate::outcome::Outcome;
-use crate::words::check_key;
+use crate::prove::prove;
+use crate::words::command_of;
 use outside_traits::{Keys, Sink, Source, write_all};
 use std::alloc::Global;
 
@@ -22,27 +25,44 @@ pub fn run<K: Keys, I: Source, O: Sink, E: Sink>(
     errors: &mut E,
 ) -> u8
     ensures { (outcome : End) × (result ≡ status_of outcome)
-        × Causes (run_of (texts words.now) (K.key_accepts keys.now) (I.source input.old) (I.source input.new)
+        × Causes (texts words.now) (run_of (K.key_accepts keys.now) (I.source input.old) (I.source input.new)
         (O.sink output.old) (O.sink output.new)) outcome
         × Prints (E.sink errors.old) (E.sink errors.new) (line_of outcome) }
 {
-    end(command(alloc, words, keys, input, output), errors)
+    end(run_words(alloc, words, keys, input, output), errors)
 }
 
 /// Runs the command that the words say.
-fn command<K: Keys, I: Source, O: Sink>(
+fn run_words<K: Keys, I: Source, O: Sink>(
     alloc: Global,
     words: &[String],
     keys: &K,
     input: &mut I,
     output: &mut O,
 ) -> Outcome
-    ensures { Causes (run_of (texts words.now) (K.key_accepts keys.now)
+    ensures { Causes (texts words.now) (run_of (K.key_accepts keys.now)
         (I.source input.old) (I.source input.new) (O.sink output.old) (O.sink output.new)) result }
 {
-    match check_key(words) {
-        Some(key) => check(alloc, &key, keys, input, output),
+    match command_of(words) {
+        Some(command) => run_command(alloc, &command, keys, input, output),
         None => Outcome::Usage,
+    }
+}
+
+/// Runs a command.
+fn run_command<K: Keys, I: Source, O: Sink>(
+    alloc: Global,
+    command: &Command,
+    keys: &K,
+    input: &mut I,
+    output: &mut O,
+) -> Outcome
+    ensures { EndsSo (run_of (K.key_accepts keys.now) (I.source input.old) (I.source input.new)
+        (O.sink output.old) (O.sink output.new)) command.now result }
+{
+    match command {
+        Command::Check { key } => check(alloc, key, keys, input, output),
+        Command::Prove { key, index } => prove(alloc, key, *index, keys, input, output),
     }
 }
 

@@ -20,6 +20,25 @@ const HELLO: [u8; 155] = [
     0x68, 0x65, 0x6c, 0x6c, 0x6f, 0x2c, 0x20, 0x6c, 0x6f, 0x67, 0x0a,
 ];
 
+// The last block of a log of seven, `a` to `g`.
+const SEVENTH: [u8; 225] = [
+    0x48, 0x43, 0x50, 0x52, 0x4f, 0x4f, 0x46, 0x31, 0x00, 0x00, 0x00, 0x00, 0x00, 0x00, 0x00, 0x00,
+    0x07, 0x00, 0x00, 0x00, 0x00, 0x00, 0x00, 0x00, 0x06, 0x00, 0x00, 0x00, 0x00, 0x00, 0x00, 0x00,
+    0xdb, 0xcb, 0x70, 0xdd, 0x1f, 0xec, 0x75, 0x85, 0xdf, 0x76, 0xb1, 0x0b, 0x42, 0x3d, 0x7f, 0x94,
+    0x40, 0x58, 0xdf, 0xb5, 0xbe, 0x30, 0x49, 0xa7, 0x8f, 0x2e, 0x9b, 0xd6, 0xda, 0xdd, 0xa2, 0x86,
+    0x90, 0x68, 0x3d, 0x6c, 0xdf, 0x50, 0xb1, 0x87, 0x5b, 0x28, 0x05, 0xf3, 0x02, 0x5b, 0xfc, 0xb1,
+    0xf3, 0x28, 0xcc, 0x8e, 0x7e, 0xd9, 0xfe, 0x7d, 0x37, 0x20, 0x2b, 0x69, 0x28, 0x08, 0x12, 0x35,
+    0x04, 0x00, 0x00, 0x00, 0x00, 0x00, 0x00, 0x00, 0x0f, 0x9c, 0xcf, 0xd5, 0x9f, 0x6c, 0x98, 0xfd,
+    0x5b, 0x6e, 0x44, 0x4a, 0x6e, 0x57, 0x32, 0x5c, 0x91, 0xed, 0xdc, 0xfa, 0xbc, 0xeb, 0x4c, 0x74,
+    0xd9, 0x2f, 0x28, 0xc4, 0x5f, 0x31, 0x0c, 0xd3, 0x02, 0x00, 0x00, 0x00, 0x00, 0x00, 0x00, 0x00,
+    0x3a, 0x1d, 0x57, 0x79, 0x84, 0x24, 0x5c, 0x49, 0x90, 0x83, 0xf0, 0x90, 0x77, 0x75, 0x56, 0x1b,
+    0xca, 0xd0, 0x4c, 0x1d, 0x09, 0x06, 0x53, 0x72, 0x61, 0xdd, 0x9f, 0xed, 0xb2, 0x41, 0x37, 0xcf,
+    0x01, 0x00, 0x00, 0x00, 0x00, 0x00, 0x00, 0x00, 0x53, 0xd6, 0xcc, 0xee, 0xd4, 0x4a, 0x4e, 0x3e,
+    0x04, 0xc1, 0x1e, 0x80, 0x8b, 0xf5, 0x9f, 0x6c, 0xdf, 0xc7, 0x49, 0xdc, 0xc0, 0x1d, 0xf9, 0x24,
+    0xbb, 0xa5, 0x56, 0x45, 0xf4, 0x46, 0x4a, 0x1d, 0x01, 0x00, 0x00, 0x00, 0x00, 0x00, 0x00, 0x00,
+    0x67,
+];
+
 /// What a run came to, and what its output and its stream of errors then hold.
 #[derive(Drop)]
 struct Ran {
@@ -85,23 +104,30 @@ fn words_that_are_no_command_line(rt: HostRuntime) -> Result<(), Fail> {
     let line = b"usage: hypercore_cli COMMAND KEY [NAME] [ARGUMENTS]\n";
     let short = "000000000000000000000000000000000000000000000000000000000000000";
     let other = "000000000000000000000000000000000000000000000000000000000000000g";
-    for (first, second, count) in [
-        ("", "", 0usize),
-        ("check", "", 1),
-        ("check", "", 2),
-        ("check", short, 2),
-        ("check", other, 2),
-        ("check", "-h", 2),
-        ("frob", KEY, 2),
-        ("prove", KEY, 2),
-        ("--help", "", 1),
+    for (first, second, third, count) in [
+        ("", "", "", 0usize),
+        ("check", "", "", 1),
+        ("check", "", "", 2),
+        ("check", short, "", 2),
+        ("check", other, "", 2),
+        ("check", "-h", "", 2),
+        ("check", KEY, "0", 3),
+        ("frob", KEY, "", 2),
+        ("prove", KEY, "", 2),
+        ("prove", short, "0", 3),
+        ("prove", KEY, "", 3),
+        ("prove", KEY, "-1", 3),
+        ("prove", KEY, "+1", 3),
+        ("prove", KEY, "01", 3),
+        ("prove", KEY, "1000000000000000000", 3),
+        ("--help", "", "", 1),
     ] {
-        let words = [first, second];
+        let words = [first, second, third];
         let given = &words[..words.len().min(count)];
         let ran = run_over(rt.alloc(), given, &HELLO, NO_FAULTS)?;
-        assert_eq!(rt; ran.status, 2, "{first} {second}");
-        assert!(rt; holds(&ran.output, b""), "{first} {second}");
-        assert!(rt; holds(&ran.errors, line), "{first} {second}");
+        assert_eq!(rt; ran.status, 2, "{first} {second} {third}");
+        assert!(rt; holds(&ran.output, b""), "{first} {second} {third}");
+        assert!(rt; holds(&ran.errors, line), "{first} {second} {third}");
     }
     Ok(())
 }
@@ -160,5 +186,135 @@ fn each_fault_of_a_stream(rt: HostRuntime) -> Result<(), Fail> {
     let silent = run_over(rt.alloc(), &words, b"", no_errors)?;
     assert_eq!(rt; silent.status, 7);
     assert!(rt; holds(&silent.errors, b""));
+    Ok(())
+}
+
+#[test]
+fn each_end_of_a_proof(rt: HostRuntime) -> Result<(), Fail> {
+    let seven = "a\nb\nc\nd\ne\nf\ng";
+    for (index, lines, status, size, line) in [
+        ("6", seven, 0, 225usize, ""),
+        ("7", seven, 12, 0, "out of range: 7\n"),
+        ("0", "", 12, 0, "out of range: 0\n"),
+        ("0", "a", 0, 145, ""),
+        ("999999999999999999", "a\n", 12, 0, "out of range: 1\n"),
+    ] {
+        let words = ["prove", KEY, index];
+        let ran = run_over(rt.alloc(), &words, lines.as_bytes(), NO_FAULTS)?;
+        assert_eq!(rt; ran.status, status, "{index} of {lines}");
+        assert_eq!(rt; ran.output.bytes().len(), size, "{index} of {lines}");
+        assert!(rt; holds(&ran.errors, line.as_bytes()), "{index} of {lines}");
+    }
+    Ok(())
+}
+
+#[test]
+fn the_last_of_seven(rt: HostRuntime) -> Result<(), Fail> {
+    let seven = b"a\nb\nc\nd\ne\nf\ng\n";
+    let ran = run_over(rt.alloc(), &["prove", KEY, "6"], seven, NO_FAULTS)?;
+    assert!(rt; holds(&ran.output, &SEVENTH));
+    Ok(())
+}
+
+// So many lines of so many bytes.
+fn equal_lines(alloc: Global, lines: u64, size: usize) -> Result<Vec<u8>, Fail> {
+    let line = vec![in alloc; b'x'; size]?;
+    let mut bytes = Vec::new(alloc);
+    for _ in 0..lines {
+        bytes.extend_from_slice(line.as_slice())?;
+        bytes.push(b'\n')?;
+    }
+    Ok(bytes)
+}
+
+// Where the first read has all that a refusal takes, the second one would fail.
+#[test]
+fn limits_of_a_proof(rt: HostRuntime) -> Result<(), Fail> {
+    for (count, size, fault, status, line) in [
+        (1_024, 0, None, 0, ""),
+        (1_025, 0, Some(1), 14, "limit batch: 1024\n"),
+        (1, 1_048_577, Some(1), 14, "limit block: 1048576\n"),
+        (9, 1_048_575, None, 14, "limit batch-bytes: 8388608\n"),
+    ] {
+        let lines = equal_lines(rt.alloc(), count, size)?;
+        let faults = Faults {
+            input: fault,
+            ..NO_FAULTS
+        };
+        let ran = run_over(rt.alloc(), &["prove", KEY, "0"], lines.as_slice(), faults)?;
+        assert_eq!(rt; ran.status, status, "{count} lines of {size}");
+        assert!(rt;
+            status == 0 || holds(&ran.output, b""),
+            "{count} lines of {size}"
+        );
+        assert!(rt;
+            holds(&ran.errors, line.as_bytes()),
+            "{count} lines of {size}"
+        );
+    }
+    Ok(())
+}
+
+// The second read of the input fails in the middle of a line.
+#[test]
+fn each_fault_of_a_proof(rt: HostRuntime) -> Result<(), Fail> {
+    for (index, input, output, errors, status, line) in [
+        ("0", Some(0), None, None, 3, "read fault\n"),
+        ("0", Some(1), None, None, 3, "read fault\n"),
+        ("0", None, Some(0), None, 4, "write fault\n"),
+        ("2", None, None, Some(0), 12, ""),
+    ] {
+        let faults = Faults {
+            input,
+            output,
+            errors,
+        };
+        let ran = run_over(rt.alloc(), &["prove", KEY, index], b"a\nb", faults)?;
+        assert_eq!(rt; ran.status, status, "{line}");
+        assert!(rt; holds(&ran.output, b""), "{line}");
+        assert!(rt; holds(&ran.errors, line.as_bytes()), "{line}");
+    }
+    Ok(())
+}
+
+// What `prove` writes of a line, `check` gives back.
+fn gives_back(alloc: Global, index: &str, lines: &[u8], line: &[u8]) -> Result<bool, Fail> {
+    let proved = run_over(alloc, &["prove", KEY, index], lines, NO_FAULTS)?;
+    let words = ["check", KEY];
+    let checked = run_over(alloc, &words, proved.output.bytes(), NO_FAULTS)?;
+    Ok(proved.status == 0 && checked.status == 0 && checked.output.bytes() == line)
+}
+
+#[test]
+fn each_line_of_short_logs_comes_back(rt: HostRuntime) -> Result<(), Fail> {
+    let lines = b"a\nb\nc\nd\ne\nf\ng\nh\ni\n";
+    let words = ["0", "1", "2", "3", "4", "5", "6", "7", "8"];
+    for count in 1..10 {
+        for index in 0..count {
+            let line = &lines[2 * index..2 * index + 1];
+            let back = gives_back(rt.alloc(), words[index], &lines[..2 * count], line)?;
+            assert!(rt; back, "line {index} of {count}");
+        }
+    }
+    Ok(())
+}
+
+#[test]
+fn lines_of_the_longest_log_come_back(rt: HostRuntime) -> Result<(), Fail> {
+    let mut lines = Vec::new(rt.alloc());
+    for index in 0..1_024u64 {
+        lines.push(33 + (index % 64) as u8)?;
+        lines.push(33 + (index / 64) as u8)?;
+        lines.push(b'\n')?;
+    }
+    for (index, line) in [
+        ("0", b"!!"),
+        ("511", b"`("),
+        ("512", b"!)"),
+        ("1023", b"`0"),
+    ] {
+        let back = gives_back(rt.alloc(), index, lines.as_slice(), line)?;
+        assert!(rt; back, "line {index}");
+    }
     Ok(())
 }

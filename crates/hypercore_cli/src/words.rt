@@ -1,25 +1,109 @@
 //! The command line.
-ghost use Rattle.std.specs.Prelude.{◌∷◌, []};
-ghost use Rattle.hypercore_cli.specs.Runs.{texts, IsKeyOf};
+ghost use Rattle.std.specs.Prelude.{◌≡◌, ◌∷◌, codes, length, ◌≤◌, IsTrue};
+ghost use Rattle.hypercore_cli.specs.Runs.{texts};
+ghost use Rattle.std.specs.List.{list_all};
+ghost use Rattle.hypercore_cli.specs.Words.{is_digit, is_number, number_of};
+ghost use Rattle.hypercore_cli.specs.Commands.{IsCommandOf, IsKeyOf, IsNumberOf};
 
+use crate::command::Command;
 use hex::FromHex;
 
-/// The key of a command line `check KEY`; `None` exactly where the words are no command line.
-pub fn check_key(words: &[String]) -> Option<[u8; 32]>
-    ensures { IsKeyOf (texts words.now) result }
+/// The most digits of a number.
+const MOST_DIGITS: usize = 18;
+
+/// The command of a command line; `None` exactly where the words are no command line.
+pub fn command_of(words: &[String]) -> Option<Command>
+    ensures { IsCommandOf (texts words.now) result }
+{
+    if words.is_empty() {
+        return None;
+    }
+    command_behind(words[0].as_str(), &words[1..])
+}
+
+/// The command of this name with these words behind it.
+fn command_behind(name: &str, words: &[String]) -> Option<Command>
+    ensures { IsCommandOf (name.now ∷ texts words.now) result }
+{
+    if name == "check" {
+        return check_of(words);
+    }
+    if name == "prove" {
+        return prove_of(words);
+    }
+    None
+}
+
+/// KEY
+fn check_of(words: &[String]) -> Option<Command>
+    ensures { IsCommandOf (codes "check" ∷ texts words.now) result }
+{
+    if words.len() != 1 {
+        return None;
+    }
+    match key_in(words[0].as_str()) {
+        Some(key) => Some(Command::Check { key }),
+        None => None,
+    }
+}
+
+/// KEY INDEX
+fn prove_of(words: &[String]) -> Option<Command>
+    ensures { IsCommandOf (codes "prove" ∷ texts words.now) result }
 {
     if words.len() != 2 {
         return None;
     }
-    key_behind(words[0].as_str(), words[1].as_str())
+    match (key_in(words[0].as_str()), number_in(words[1].as_str())) {
+        (Some(key), Some(index)) => Some(Command::Prove { key, index }),
+        _ => None,
+    }
 }
 
-/// The key of a command line of two words.
-fn key_behind(command: &str, key: &str) -> Option<[u8; 32]>
-    ensures { IsKeyOf (command.now ∷ key.now ∷ []) result }
+/// A key, where the word is one.
+fn key_in(word: &str) -> Option<[u8; 32]>
+    ensures { IsKeyOf word.now result }
 {
-    if command != "check" {
+    <[u8; 32] as FromHex>::from_hex(word).ok()
+}
+
+/// A number, where the word is one.
+fn number_in(word: &str) -> Option<u64>
+    ensures { IsNumberOf word.now result }
+{
+    let digits = word.as_bytes();
+    if !is_number(digits) {
         return None;
     }
-    <[u8; 32] as FromHex>::from_hex(key).ok()
+    Some(number_of(digits))
+}
+
+/// Whether these are one to eighteen digits, without a zero in front of another.
+fn is_number(word: &[u8]) -> bool
+    ensures { result ≡ is_number word.now }
+{
+    match word {
+        [] => false,
+        [first, rest @ ..] => {
+            are_digits(word) && word.len() <= MOST_DIGITS && (*first != b'0' || rest.is_empty())
+        }
+    }
+}
+
+fn are_digits(word: &[u8]) -> bool
+    ensures { result ≡ list_all is_digit word.now }
+{
+    word.iter().all(|byte| byte.is_ascii_digit())
+}
+
+/// The number that so few digits stand for.
+fn number_of(digits: &[u8]) -> u64
+    requires { IsTrue (is_number digits.now) }
+    ensures { result ≡ number_of digits.now }
+{
+    let mut number = 0;
+    for digit in digits {
+        number = 10 * number + (*digit - b'0') as u64;
+    }
+    number
 }

@@ -1,14 +1,17 @@
 -- Which words are a command line.
-use Rattle.std.proofs.Common.{◌≡◌, ◌<◌, ℕ, Bool, true, false, ◌&&◌, ◌||◌, not, eqb, List, [], ◌∷◌, length, codes, Result, Ok, Err, refl, sym, ap, subst, arith}
-use Rattle.std.specs.Prelude.{IsOk}
+use Rattle.std.proofs.Common.{◌≡◌, ◌<◌, ℕ, true, false, ◌&&◌, not, eqb, List, [], ◌∷◌, length, codes, Result, Ok, Err, refl, sym, ap, subst, arith}
+use Rattle.std.specs.Prelude.{IsOk, String, string_bytes}
+use Rattle.std.specs.declared.alloc.Global.{Global}
 use Rattle.std.specs.Result.{result_ok, result_unwrap_or}
 use Rattle.std.specs.List.{list_all}
-use Rattle.std.proofs.lemmas.Bool.{and_parts, and_from, false_from_ne_true, eqb-true, eq-eqb}
+use Rattle.std.proofs.lemmas.Bool.{and_parts, and_from, and_right, or_from, false_from_ne_true, eqb-true, eq-eqb}
+use Rattle.std.proofs.lemmas.List.{length-map}
 use Rattle.std.proofs.lemmas.List.Sums.{AllPass-from_list_all, list_all-from_AllPass}
 use Rattle.hex.specs.Hex.{is_hex_digit, decode_sized}
 use Rattle.hex.specs.declared.FromHexError.{FromHexError}
 use Rattle.hex.proofs.HexLemmas.{IsOk-decode_sized}
-use Rattle.hypercore_cli.specs.Words.{Key, is_plain}
+use Rattle.hypercore_cli.specs.Words.{Slot, Key, Number, is_plain, fits_slot, fits_slots, is_well_formed}
+use Rattle.hypercore_cli.specs.Runs.{texts}
 use Rattle.hypercore_cli.specs.Commands.{fits, IsKeyOf}
 
 no_dash : (c : ℕ) → is_hex_digit c ≡ true → not (eqb c 45) ≡ true
@@ -36,3 +39,17 @@ key_only word key =
 pub IsKeyOf-read : (word : List ℕ) (r : Result (List ℕ) FromHexError) → r ≡ decode_sized word 32 → IsKeyOf word (result_ok r)
 IsKeyOf-read word (Ok key) is = (key_from word (subst (λ x. IsOk x) is refl), ap (λ x. result_unwrap_or x []) is)
 IsKeyOf-read word (Err e) is = false_from_ne_true (fits Key word) (λ yes. let read : IsOk {T = List ℕ} {E = FromHexError} (Err e) = subst (λ x. IsOk x) (sym is) (key_only word yes) in cc)
+
+-- a row fits no other number of words
+fits_slots-length : (slots : List Slot) (words : List (List ℕ)) → (length words ≡ length slots → ⊥) → fits_slots slots words ≡ false
+fits_slots-length [] [] other = absurd (other refl)
+fits_slots-length [] (word ∷ words) other = refl
+fits_slots-length (slot ∷ slots) [] other = refl
+fits_slots-length (slot ∷ slots) (word ∷ words) other =
+    and_right (is_plain word && fits_slot slot word) (fits_slots slots words) (fits_slots-length slots words (λ same. other (omega (arith, same))))
+
+-- another number of words behind `prove` is no command line
+pub prove_of_others : (words : List (String Global)) → (length words ≡ 2 → ⊥) → is_well_formed (codes "prove" ∷ texts words) ≡ false
+prove_of_others words other =
+    let same : length (texts words) ≡ length words = length-map words string_bytes in
+    or_from (fits_slots (Key ∷ Number ∷ []) (texts words)) false (fits_slots-length (Key ∷ Number ∷ []) (texts words) (λ two. other (omega (arith, same, two)))) refl

@@ -1,146 +1,111 @@
 -- How a log is read from the lines of an input, call by call.
-use Rattle.std.proofs.Common.{◌≡◌, ◌≢◌, ℕ, zero, suc, ◌+◌, ◌<◌, ◌≤◌, Bool, true, false, IsTrue, List, [], ◌∷◌, ◌++◌, length, take, drop, Result, Ok, Err, None, Some, inl, inr, ◌⊎◌, refl, sym, ap, ◌∙◌, subst, arith, append_assoc, append-nil, length-append, take-append-drop}
-use Rattle.std.specs.Io.KnownBytes.{IsAtEnd}
-use Rattle.std.proofs.KnownBytes.{Consumes-nil, Consumes-trans}
-use Rattle.outside_traits.specs.Faults.{Rose, count_fault}
+use Rattle.std.proofs.Common.{◌≡◌, ℕ, ◌≤◌, Bool, true, false, IsTrue, List, [], ◌∷◌, ◌++◌, length, Result, Ok, Err, None, Some, inl, inr, ◌⊎◌, refl, sym, ap, ◌∙◌, subst, arith, append_assoc}
+use Rattle.std.proofs.KnownBytes.{Consumes-trans}
 use Rattle.outside_traits.specs.Streams.{SourceView}
-use Rattle.outside_traits.specs.Lines.{LinesView, lines_of, line_feed, HasNoFeed, WantsMore, IsTooLong}
+use Rattle.outside_traits.specs.Lines.{LinesView, lines_of, WantsMore}
 use Rattle.outside_traits.specs.LineCalls.{NextLine, Ends, CountsFaults, IsWanted}
 use Rattle.outside_traits.specs.declared.lines.LineFault.{LineFault}
-use Rattle.outside_traits.specs.declared.lines.LineFault.TheVariants.{Failed, TooLong}
-use Rattle.outside_traits.proofs.LineLemmas.{lines_of-taken, lines_of-too_long, Ends-kept}
+use Rattle.outside_traits.specs.declared.lines.LineFault.TheVariants.{TooLong}
+use Rattle.outside_traits.proofs.LineLemmas.{lines_of-too_long, Ends-kept}
+use Rattle.outside_traits.proofs.LinesSoFar.{LinesSoFar, LinesSoFar-next, LinesSoFar-end}
 use Rattle.flat_tree.specs.declared.limits.TheConstants.{MAX_BLOCK_BYTES}
 use Rattle.merkle_nodes.specs.declared.limit.What.{What}
 use Rattle.merkle_nodes.specs.declared.limit.What.TheVariants.{Block}
 use Rattle.merkle_batch.specs.Limits.{limit_of}
 use Rattle.hypercore_cli.specs.LineLimits.{limit_in}
-use Rattle.hypercore_cli.specs.Proves.{HasTaken, PassFirst, PassesLimit, ReadsLog}
-use Rattle.hypercore_cli.specs.Logs.{fresh_lines, HasLines, HasLog, Refuses, RefusesLine, GoesToLine, IsWhole}
+use Rattle.hypercore_cli.specs.Proves.{PassesLimit}
+use Rattle.hypercore_cli.specs.Logs.{fresh_lines, Refuses, RefusesLine, IsLogOf}
 use Rattle.hypercore_cli.specs.declared.outcome.Outcome.{Outcome}
-use Rattle.hypercore_cli.specs.declared.outcome.Outcome.TheVariants.{Done, Usage, ReadFault, WriteFault, BadForm, NotProved, BadSignature, OutOfRange, Limit, NoMemory}
+use Rattle.hypercore_cli.specs.declared.outcome.Outcome.TheVariants.{Limit, NoMemory}
 use Rattle.hypercore_cli.proofs.LimitLemmas.{limit_in-block, limit_in-front}
 
--- nothing is read behind an end
-none_behind_end : (lines : LinesView) (read : List ℕ) → (read ≡ []) ⊎ IsWanted lines read → IsTrue lines.ended → read ≡ []
-none_behind_end lines read (inl none) ended = none
-none_behind_end lines read (inr more) ended = absurd (grind (arith, more.not_ended, ended))
+-- so far these lines were met, and the log, whose lines pass no limit, goes on with them
+pub record HasMet (first now : SourceView) (lines : LinesView) (log met : List (List ℕ)) : Type 0 where
+  pub so_far : LinesSoFar first now fresh_lines lines met
+  pub faults : first.faults ≤ now.faults
+  pub max : lines.max ≡ MAX_BLOCK_BYTES
+  pub fits : limit_in 0 0 log ≡ None
 
--- what a call reads stands behind what was read before, whatever it answers
-record HasAhead (input input_now : SourceView) (ended : Bool) (log : List (List ℕ)) (ahead : List ℕ) : Type 0 where
-  bytes : List ℕ
-  read : HasTaken input input_now bytes ended
-  split : (left : List ℕ) → (IsTrue ended → left ≡ []) → lines_of (bytes ++ left) ≡ log ++ lines_of (ahead ++ left)
+-- the log has all lines that were met
+abbrev pub HasLog : SourceView → SourceView → LinesView → List (List ℕ) → Type 0
+HasLog first now lines log = HasMet first now lines log log
 
-HasAhead-next : (first source source_now : SourceView) (lines lines_now : LinesView) (log : List (List ℕ)) (answer : Result Bool LineFault)
-    → HasLines first source lines log → (next : NextLine source source_now lines lines_now answer) → Ends source_now lines lines_now
-    → WantsMore lines ⊎ (source_now ≡ source) → HasAhead first source_now lines_now.ended log (lines.ahead ++ next.read)
-HasAhead-next first source source_now lines lines_now log answer has next ends idle = record {
-  bytes = has.bytes ++ next.read;
-  read = record {
-    told = Consumes-trans _ _ _ has.bytes next.read has.read.told next.reads.left;
-    at_end = Ends-kept source source_now lines lines_now has.read.at_end ends idle;
-  };
-  split = λ left may.
-      let none : IsTrue lines.ended → next.read ++ left ≡ [] = λ ended.
-      ap (λ l. l ++ left) (none_behind_end lines next.read next.reads.wanted ended) ∙ may (ends.kept ended) in
-      ap lines_of (append_assoc has.bytes next.read left) ∙ has.split (next.read ++ left) none
-      ∙ ap (λ l. log ++ lines_of l) (sym (append_assoc lines.ahead next.read left));
-}
+-- what a call for the next line does
+pub record Calls (now next_source : SourceView) (lines next : LinesView) (answer : Result Bool LineFault) : Type 0 where
+  pub call : NextLine now next_source lines next answer
+  pub max : next.max ≡ lines.max
+  pub idle : WantsMore lines ⊎ (next_source ≡ now)
+  pub ends : Ends next_source lines next
+  pub cause : CountsFaults now next_source answer
 
--- what a call answers with this reader and source, over what was taken before
-pub record Calls (first source source_now : SourceView) (lines lines_now : LinesView) (log : List (List ℕ)) (answer : Result Bool LineFault) : Type 0 where
-  pub has : HasLog first source lines log
-  pub next : NextLine source source_now lines lines_now answer
-  pub max : lines_now.max ≡ lines.max
-  pub idle : WantsMore lines ⊎ (source_now ≡ source)
-  pub ends : Ends source_now lines lines_now
-  pub cause : CountsFaults source source_now answer
+-- one more line was met
+pub HasMet-next : (first now next_source : SourceView) (lines next : LinesView) (log : List (List ℕ)) → HasLog first now lines log → Calls now next_source lines next (Ok true)
+    → HasMet first next_source next log (log ++ next.line ∷ []) × (length next.line ≤ MAX_BLOCK_BYTES)
+HasMet-next first now next_source lines next log has calls =
+    let max : next.max ≡ MAX_BLOCK_BYTES = calls.max ∙ has.max in
+    let taken = calls.call.hands in (
+      record {
+        so_far = LinesSoFar-next first now next_source fresh_lines lines next log has.so_far calls.call calls.ends calls.idle;
+        faults = omega (arith, has.faults, calls.cause.kept);
+        max = max;
+        fits = has.fits;
+      },
+      omega (arith, taken.within, max),
+    )
 
-ahead : (first source source_now : SourceView) (lines lines_now : LinesView) (log : List (List ℕ)) (answer : Result Bool LineFault)
-    → (calls : Calls first source source_now lines lines_now log answer) → HasAhead first source_now lines_now.ended log (lines.ahead ++ calls.next.read)
-ahead first source source_now lines lines_now log answer calls =
-    HasAhead-next first source source_now lines lines_now log answer calls.has.taken calls.next calls.ends calls.idle
+-- the line was added to the log
+pub HasLog-added : (first now : SourceView) (lines : LinesView) (log log_now : List (List ℕ)) → HasMet first now lines log (log ++ lines.line ∷ [])
+    → (log_now ≡ log ++ lines.line ∷ []) × (limit_in 0 0 log_now ≡ None) → HasLog first now lines log_now
+HasLog-added first now lines log log_now has added =
+    record { so_far = subst (LinesSoFar first now fresh_lines lines) (sym added.0) has.so_far; faults = has.faults; max = has.max; fits = added.1 }
 
-module _ (first source source_now : SourceView) (lines lines_now : LinesView) (log : List (List ℕ)) where
-  most : (answer : Result Bool LineFault) → Calls first source source_now lines lines_now log answer → lines_now.max ≡ MAX_BLOCK_BYTES
-  most answer calls = calls.max ∙ calls.has.taken.max
+-- none is left
+pub IsLogOf-end : (first now next_source : SourceView) (lines next : LinesView) (log : List (List ℕ)) → HasLog first now lines log → Calls now next_source lines next (Ok false)
+    → IsLogOf first next_source log
+IsLogOf-end first now next_source lines next log has calls =
+    let all = LinesSoFar-end first now next_source fresh_lines lines next log has.so_far calls.call calls.ends calls.idle in
+    (all.read, record { told = all.left; at_end = all.at_end; fits = ap (limit_in 0 0) (sym all.lines) ∙ has.fits }, all.lines)
 
-  -- one more line
-  GoesToLine-more : Calls first source source_now lines lines_now log (Ok true) → GoesToLine first source_now lines_now log (Ok true)
-  GoesToLine-more calls =
-      let behind = ahead first source source_now lines lines_now log (Ok true) calls in
-      let taken = calls.next.hands in (
-        record {
-          bytes = behind.bytes;
-          read = behind.read;
-          faults = omega (arith, calls.has.taken.faults, calls.cause.kept);
-          max = most (Ok true) calls;
-          split = λ left may.
-              behind.split left may ∙ ap (λ l. log ++ l) (lines_of-taken (lines.ahead ++ calls.next.read) left lines_now taken may)
-              ∙ sym (append_assoc log (lines_now.line ∷ []) (lines_of (lines_now.ahead ++ left)));
-        },
-        omega (arith, taken.within, most (Ok true) calls),
-      )
+-- behind an end nothing is read, and nothing follows
+none_behind_end : (lines next : LinesView) (source : SourceView) (read left : List ℕ) → (read ≡ []) ⊎ IsWanted lines read → Ends source lines next → (IsTrue next.ended → left ≡ [])
+    → IsTrue lines.ended → read ++ left ≡ []
+none_behind_end lines next source read left (inl none) ends may ended = rw (none, may (ends.kept ended)) refl
+none_behind_end lines next source read left (inr more) ends may ended = absurd (grind (arith, more.not_ended, ended))
 
-  -- no line is left
-  GoesToLine-end : Calls first source source_now lines lines_now log (Ok false) → GoesToLine first source_now lines_now log (Ok false)
-  GoesToLine-end calls =
-      let behind = ahead first source source_now lines lines_now log (Ok false) calls in
-      let none = calls.next.hands in
-      let all : lines_of behind.bytes ≡ log =
-      ap lines_of (sym (append-nil behind.bytes)) ∙ behind.split [] (λ ended. refl)
-      ∙ ap (λ l. log ++ lines_of (l ++ [])) none.none ∙ append-nil log in
-      (behind.bytes, record { told = behind.read.told; at_end = behind.read.at_end none.ended; fits = ap (limit_in 0 0) all ∙ calls.has.fits }, sym all)
+-- a line too long
+pub PassesLimit-too_long : (first now next_source : SourceView) (lines next : LinesView) (log : List (List ℕ)) → HasLog first now lines log
+    → Calls now next_source lines next (Err TooLong) → PassesLimit first next_source Block MAX_BLOCK_BYTES
+PassesLimit-too_long first now next_source lines next log has calls =
+    let read = calls.call.read in (
+      has.so_far.read ++ read,
+      next.ended,
+      record {
+        told = Consumes-trans _ _ _ has.so_far.read read has.so_far.left calls.call.reads.left;
+        at_end = Ends-kept now next_source lines next has.so_far.at_end calls.ends calls.idle;
+      },
+      λ left may.
+          let begins = lines_of-too_long (lines.ahead ++ read) left next calls.call.hands in
+          let all : lines_of ((has.so_far.read ++ read) ++ left) ≡ log ++ begins.first ∷ begins.others =
+          ap lines_of (append_assoc has.so_far.read read left)
+          ∙ has.so_far.lines (read ++ left) (none_behind_end lines next next_source read left calls.call.reads.wanted calls.ends may)
+          ∙ ap (λ l. log ++ lines_of l) (sym (append_assoc lines.ahead read left)) ∙ ap (λ l. log ++ l) begins.is in
+          ap (limit_in 0 0) all ∙ limit_in-block log begins.first begins.others has.fits (omega (arith, begins.long, calls.max, has.max)),
+    )
 
-  -- a line, or none
-  pub GoesToLine-ok : (more : Bool) → Calls first source source_now lines lines_now log (Ok more) → GoesToLine first source_now lines_now log (Ok more)
-  GoesToLine-ok true calls = GoesToLine-more calls
-  GoesToLine-ok false calls = GoesToLine-end calls
-
-  -- a line too long
-  pub GoesToLine-too_long : Calls first source source_now lines lines_now log (Err TooLong) → PassesLimit first source_now Block MAX_BLOCK_BYTES
-  GoesToLine-too_long calls =
-      let behind = ahead first source source_now lines lines_now log (Err TooLong) calls in
-      let too_long = calls.next.hands in (
-        behind.bytes,
-        lines_now.ended,
-        behind.read,
-        λ left may.
-            let begins = lines_of-too_long (lines.ahead ++ calls.next.read) left lines_now too_long in
-            ap (limit_in 0 0) (behind.split left may ∙ ap (λ l. log ++ l) begins.is)
-            ∙ limit_in-block log begins.first begins.others calls.has.fits (omega (arith, begins.long, most (Err TooLong) calls)),
-      )
-
--- an answer that is known
-pub GoesToLine-true : (first source : SourceView) (lines : LinesView) (log : List (List ℕ)) (more : Bool) → more ≡ true → GoesToLine first source lines log (Ok more)
-    → GoesToLine first source lines log (Ok true)
-GoesToLine-true first source lines log more is takes = subst (λ (b : Bool). GoesToLine first source lines log (Ok b)) is takes
-
-pub GoesToLine-false : (first source : SourceView) (lines : LinesView) (log : List (List ℕ)) (more : Bool) → more ≡ false → GoesToLine first source lines log (Ok more)
-    → GoesToLine first source lines log (Ok false)
-GoesToLine-false first source lines log more is takes = subst (λ (b : Bool). GoesToLine first source lines log (Ok b)) is takes
-
--- the line that was taken passes a limit
-PassesLimit-added : (first source : SourceView) (lines : LinesView) (log : List (List ℕ)) (what : What) (max : ℕ) → HasLines first source lines (log ++ lines.line ∷ [])
-    → limit_in 0 0 (log ++ lines.line ∷ []) ≡ Some (limit_of what max) → PassesLimit first source what max
-PassesLimit-added first source lines log what max has passes = (
-  has.bytes,
+-- the line passes a limit
+PassesLimit-met : (first now : SourceView) (lines : LinesView) (log met : List (List ℕ)) (what : What) (max : ℕ) → HasMet first now lines log met
+    → limit_in 0 0 met ≡ Some (limit_of what max) → PassesLimit first now what max
+PassesLimit-met first now lines log met what max has passes = (
+  has.so_far.read,
   lines.ended,
-  has.read,
+  record { told = has.so_far.left; at_end = has.so_far.at_end },
   λ left may.
-      ap (limit_in 0 0) (has.split left may) ∙ limit_in-front 0 0 (log ++ lines.line ∷ []) (lines_of (lines.ahead ++ left)) (limit_of what max) passes,
+      ap (limit_in 0 0) (has.so_far.lines left may) ∙ limit_in-front 0 0 met (lines_of (lines.ahead ++ left)) (limit_of what max) passes,
 )
 
--- the same of each refusal of the line
-pub Refuses-added : (first source : SourceView) (lines : LinesView) (log : List (List ℕ)) (outcome : Outcome) → HasLines first source lines (log ++ lines.line ∷ [])
-    → RefusesLine log lines.line outcome → Refuses first source outcome
-Refuses-added first source lines log Done has refused = absurd refused
-Refuses-added first source lines log Usage has refused = absurd refused
-Refuses-added first source lines log ReadFault has refused = absurd refused
-Refuses-added first source lines log WriteFault has refused = absurd refused
-Refuses-added first source lines log (BadForm at) has refused = absurd refused
-Refuses-added first source lines log (NotProved index want have) has refused = absurd refused
-Refuses-added first source lines log BadSignature has refused = absurd refused
-Refuses-added first source lines log (OutOfRange end) has refused = absurd refused
-Refuses-added first source lines log (Limit what max) has refused = PassesLimit-added first source lines log what max has refused
-Refuses-added first source lines log NoMemory has refused = tt
+-- the line is refused
+pub Refuses-met : (first now : SourceView) (lines : LinesView) (log : List (List ℕ)) (outcome : Outcome) → HasMet first now lines log (log ++ lines.line ∷ [])
+    → RefusesLine log lines.line outcome → Refuses first now outcome
+Refuses-met first now lines log (Limit what max) has refused = PassesLimit-met first now lines log (log ++ lines.line ∷ []) what max has refused
+Refuses-met first now lines log NoMemory has refused = tt
+Refuses-met first now lines log outcome has refused = absurd refused

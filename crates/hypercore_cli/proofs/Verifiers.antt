@@ -1,5 +1,5 @@
 -- Two verifiers that accept the same answer checks alike, and accept the same proofs.
-use Rattle.std.proofs.Common.{◌≡◌, ℕ, ◌<◌, ◌≤◌, Bool, List, [], length, Ok, inl, inr, subst}
+use Rattle.std.proofs.Common.{◌≡◌, ℕ, ◌≤◌, Bool, List, [], length, Ok, inl, inr, subst}
 use Rattle.std.specs.Prelude.{IsTrue}
 use Rattle.std.specs.Result.{IsErrOf}
 use Rattle.std.proofs.lemmas.Bool.{cases_lt}

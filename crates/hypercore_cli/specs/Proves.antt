@@ -10,7 +10,7 @@ use Rattle.merkle_nodes.specs.declared.limit.What.{What}
 use Rattle.hypercore_cli.specs.LineLimits.{limit_in}
 use Rattle.hypercore_cli.specs.Runs.{Run, NoOutput}
 use Rattle.hypercore_cli.specs.declared.outcome.Outcome.{Outcome}
-use Rattle.hypercore_cli.specs.declared.outcome.Outcome.TheVariants.{Done, Usage, ReadFault, WriteFault, BadForm, NotProved, BadSignature, OutOfRange, Limit, NoMemory}
+use Rattle.hypercore_cli.specs.declared.outcome.Outcome.TheVariants.{Done, ReadFault, WriteFault, OutOfRange, Limit, NoMemory}
 
 -- these bytes were read, which are the input's next ones where it tells, and where this says so they end it
 pub record HasTaken (input input_now : SourceView) (bytes : List ℕ) (ended : Bool) : Type 0 where
@@ -38,16 +38,11 @@ IsBundleOf accepts log index bytes = (index < length log) × AppendsProof accept
 -- when each end of proving a log's block comes, and what the output then has
 abbrev pub ProvesBlock : (List ℕ → List ℕ → Bool) → List (List ℕ) → ℕ → SinkView → SinkView → Outcome → Type 0
 ProvesBlock accepts log index output output_now Done = (bundle : List ℕ) × IsBundleOf accepts log index bundle × Appends output.holds output_now.holds bundle
-ProvesBlock accepts log index output output_now Usage = ⊥
-ProvesBlock accepts log index output output_now ReadFault = ⊥
 ProvesBlock accepts log index output output_now WriteFault = Rose output.faults output_now.faults
     × (bundle : List ℕ) × IsBundleOf accepts log index bundle × AppendsFront output.holds output_now.holds bundle
-ProvesBlock accepts log index output output_now (BadForm at) = ⊥
-ProvesBlock accepts log index output output_now (NotProved number want have) = ⊥
-ProvesBlock accepts log index output output_now BadSignature = ⊥
 ProvesBlock accepts log index output output_now (OutOfRange end) = (end ≡ length log) × (end ≤ index) × Keeps output.holds output_now.holds
-ProvesBlock accepts log index output output_now (Limit what max) = ⊥
 ProvesBlock accepts log index output output_now NoMemory = Keeps output.holds output_now.holds
+ProvesBlock accepts log index output output_now outcome = ⊥
 
 -- when each end of `prove` with a key and an index comes, and what the output then has
 abbrev pub ProvesTo : Run → List ℕ → ℕ → Outcome → Type 0

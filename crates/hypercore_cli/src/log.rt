@@ -1,12 +1,11 @@
 //! A log whose blocks are the lines of an input.
-ghost use Rattle.std.specs.Prelude.{◌≡◌, ◌≤◌, ℕ, List, None, length};
-ghost use Rattle.outside_traits.specs.Streams.{SourceView};
-ghost use Rattle.hypercore_cli.specs.LineLimits.{limit_in};
-ghost use Rattle.hypercore_cli.specs.Logs.{fresh_lines, HasLog, GoesToLine, AddsLine, ReadsTo};
+ghost use Rattle.std.specs.Prelude.{◌≡◌, ◌≤◌, None, length};
+ghost use Rattle.hypercore_cli.specs.LineLimits.{limit_at, limit_in};
+ghost use Rattle.hypercore_cli.specs.Logs.{fresh_lines, AddsLine, ReadsTo};
 
 use crate::outcome::Outcome;
 use flat_tree::{MAX_BATCH_BLOCKS, MAX_BATCH_BYTES, MAX_BLOCK_BYTES};
-use merkle_nodes::What;
+use merkle_nodes::{Limit, What};
 use outside_traits::{Blobs, LineFault, Lines, Source};
 use std::alloc::Global;
 
@@ -22,37 +21,28 @@ pub fn read_log<I: Source>(alloc: Global, max: usize, input: &mut I) -> Result<B
     }
 }
 
+/// Adds each line to an empty log.
 fn read_lines<I: Source>(alloc: Global, lines: &mut Lines, input: &mut I) -> Result<Blobs, Outcome>
     requires { lines.old ≡ fresh_lines }
     ensures { ReadsTo (I.source input.old) (I.source input.new) result }
 {
     let mut log = Blobs::new();
     loop {
-        match next_line(lines, input) {
+        match lines.next(input) {
             Ok(true) => {}
             Ok(false) => return Ok(log),
-            Err(outcome) => return Err(outcome),
+            Err(LineFault::Failed) => return Err(Outcome::ReadFault),
+            Err(LineFault::TooLong) => {
+                return Err(Outcome::Limit {
+                    what: What::Block,
+                    max: MAX_BLOCK_BYTES,
+                });
+            }
         }
         match add_line(alloc, &mut log, lines.line()) {
             Ok(()) => {}
             Err(outcome) => return Err(outcome),
         }
-    }
-}
-
-/// Goes to the next line, and says whether there is one.
-fn next_line<I: Source>(lines: &mut Lines, input: &mut I) -> Result<bool, Outcome>
-    ensures { (first : SourceView) → (log : List (List ℕ))
-        → HasLog first (I.source input.old) lines.old log
-        → GoesToLine first (I.source input.new) lines.new log result }
-{
-    match lines.next(input) {
-        Ok(more) => Ok(more),
-        Err(LineFault::Failed) => Err(Outcome::ReadFault),
-        Err(LineFault::TooLong) => Err(Outcome::Limit {
-            what: What::Block,
-            max: MAX_BLOCK_BYTES,
-        }),
     }
 }
 
@@ -62,20 +52,32 @@ fn add_line(alloc: Global, log: &mut Blobs, line: &[u8]) -> Result<(), Outcome>
     requires fits { limit_in 0 0 log.old ≡ None }
     ensures { AddsLine log.old line.now log.new result }
 {
-    if log.len() >= MAX_BATCH_BLOCKS {
-        return Err(Outcome::Limit {
-            what: What::Batch,
-            max: MAX_BATCH_BLOCKS as u64,
-        });
-    }
-    if (log.flat().len() + line.len()) as u64 > MAX_BATCH_BYTES {
-        return Err(Outcome::Limit {
-            what: What::BatchBytes,
-            max: MAX_BATCH_BYTES,
-        });
+    if let Some(Limit { what, max }) = passed(log.len(), log.flat().len(), line.len()) {
+        return Err(Outcome::Limit { what, max });
     }
     match log.push(alloc, line) {
         Ok(()) => Ok(()),
         Err(_) => Err(Outcome::NoMemory),
     }
+}
+
+/// The limit that a line of `size` bytes passes first, behind so many lines of so many bytes.
+fn passed(lines: usize, bytes: usize, size: usize) -> Option<Limit>
+    requires block { size ≤ MAX_BLOCK_BYTES }
+    requires batch { bytes ≤ MAX_BATCH_BYTES }
+    ensures { result ≡ limit_at lines bytes size }
+{
+    if lines >= MAX_BATCH_BLOCKS {
+        return Some(Limit {
+            what: What::Batch,
+            max: MAX_BATCH_BLOCKS as u64,
+        });
+    }
+    if (bytes + size) as u64 > MAX_BATCH_BYTES {
+        return Some(Limit {
+            what: What::BatchBytes,
+            max: MAX_BATCH_BYTES,
+        });
+    }
+    None
 }

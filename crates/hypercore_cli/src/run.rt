@@ -3,7 +3,7 @@ ghost use Rattle.std.specs.Prelude.{◌≡◌, ℕ, List};
 ghost use Rattle.hypercore_cli.specs.declared.outcome.Outcome.{Outcome as End};
 ghost use Rattle.hypercore_cli.specs.Outcomes.{status_of, line_of};
 ghost use Rattle.hypercore_cli.specs.Runs.{run_of, texts, Prints};
-ghost use Rattle.hypercore_cli.specs.Causes.{Causes, EndsSo};
+ghost use Rattle.hypercore_cli.specs.Causes.{Causes, RunsTo};
 
 use crate::check::check;
 use crate::command::Command;
@@ -57,7 +57,7 @@ fn run_command<K: Keys, I: Source, O: Sink>(
     input: &mut I,
     output: &mut O,
 ) -> Outcome
-    ensures { EndsSo (run_of (K.key_accepts keys.now) (I.source input.old) (I.source input.new)
+    ensures { RunsTo (run_of (K.key_accepts keys.now) (I.source input.old) (I.source input.new)
         (O.sink output.old) (O.sink output.new)) command.now result }
 {
     match command {

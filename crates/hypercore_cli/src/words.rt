@@ -1,7 +1,7 @@
 //! The command line.
-ghost use Rattle.std.specs.Prelude.{◌≡◌, ◌∷◌, codes, length, ◌≤◌, IsTrue};
-ghost use Rattle.hypercore_cli.specs.Runs.{texts};
+ghost use Rattle.std.specs.Prelude.{◌≡◌, ◌∷◌, codes, IsTrue};
 ghost use Rattle.std.specs.List.{list_all};
+ghost use Rattle.hypercore_cli.specs.Runs.{texts};
 ghost use Rattle.hypercore_cli.specs.Words.{is_digit, is_number, number_of};
 ghost use Rattle.hypercore_cli.specs.Commands.{IsCommandOf, IsKeyOf, IsNumberOf};
 
@@ -34,40 +34,37 @@ fn command_behind(name: &str, words: &[String]) -> Option<Command>
     None
 }
 
-/// KEY
+/// The words behind `check`: KEY.
 fn check_of(words: &[String]) -> Option<Command>
     ensures { IsCommandOf (codes "check" ∷ texts words.now) result }
 {
     if words.len() != 1 {
         return None;
     }
-    match key_in(words[0].as_str()) {
-        Some(key) => Some(Command::Check { key }),
-        None => None,
-    }
+    let key = key_in(words[0].as_str())?;
+    Some(Command::Check { key })
 }
 
-/// KEY INDEX
+/// The words behind `prove`: KEY INDEX.
 fn prove_of(words: &[String]) -> Option<Command>
     ensures { IsCommandOf (codes "prove" ∷ texts words.now) result }
 {
     if words.len() != 2 {
         return None;
     }
-    match (key_in(words[0].as_str()), number_in(words[1].as_str())) {
-        (Some(key), Some(index)) => Some(Command::Prove { key, index }),
-        _ => None,
-    }
+    let key = key_in(words[0].as_str())?;
+    let index = number_in(words[1].as_str())?;
+    Some(Command::Prove { key, index })
 }
 
-/// A key, where the word is one.
+/// The key, where the word is one.
 fn key_in(word: &str) -> Option<[u8; 32]>
     ensures { IsKeyOf word.now result }
 {
     <[u8; 32] as FromHex>::from_hex(word).ok()
 }
 
-/// A number, where the word is one.
+/// The number, where the word is one.
 fn number_in(word: &str) -> Option<u64>
     ensures { IsNumberOf word.now result }
 {

@@ -1,13 +1,12 @@
 -- The content of no block is sound, so that a view in memory can stand for it.
-use Rattle.std.proofs.Common.{◌≡◌, ℕ, Bool, true, false, ◌*◌, ◌<◌, ◌≤◌, List, [], length, map, Some, None, refl, sym, ap, subst, ◌∙◌, arith, inl, inr}
+use Rattle.std.proofs.Common.{◌≡◌, ℕ, Bool, false, ◌≤◌, List, [], length, Some, None, refl, sym, ap, ◌∙◌, arith, inl, inr}
 use Rattle.std.proofs.lemmas.Bool.{cases_Bool}
 use Rattle.std.specs.Prelude.{is_some}
-use Rattle.flat_tree.specs.Subtrees.{Subtree, number}
 use Rattle.flat_tree.specs.Roots.{full_roots_of, roots_below}
-use Rattle.flat_tree.specs.declared.limits.TheConstants.{MAX_FORK, MAX_BLOCK_BYTES}
+use Rattle.flat_tree.specs.declared.limits.TheConstants.{MAX_FORK}
 use Rattle.bit_field.specs.Places.{has}
 use Rattle.merkle_nodes.specs.declared.node.Twig.{Twig}
-use Rattle.node_set.specs.Contents.{Content, held, node_at, roots, bytes_under}
+use Rattle.node_set.specs.Contents.{held, roots, roots_at, bytes_under}
 use Rattle.node_set.specs.Closure.{in_closure}
 use Rattle.node_set.specs.Whole.{IsSound, KeepsLimits}
 use Rattle.node_set.specs.Tables.{Parts, shown}
@@ -42,5 +41,5 @@ module _ (parts : Parts) (empty : parts.head.length ≡ 0) (none : length parts.
   pub empty_limits : parts.head.fork ≤ MAX_FORK → length parts.head.signature ≡ 64 → KeepsLimits (shown parts)
   unfolding full_roots_of roots_below
   empty_limits fork signature =
-      let no_roots : roots (shown parts) ≡ [] = ap (λ (n : ℕ). map (λ (tree : Subtree). node_at (shown parts).node tree.depth tree.offset) (full_roots_of n)) empty in
+      let no_roots : roots (shown parts) ≡ [] = ap (roots_at (shown parts).node) empty in
       record { blocks = omega (arith, empty); fork = fork; bytes = omega (arith, ap bytes_under no_roots); signature = signature }

@@ -1,5 +1,5 @@
 -- Maps of nodes: one more node put in, and those of the closure kept.
-use Rattle.std.proofs.Common.{◌≡◌, ◌≢◌, ℕ, Bool, Some, List, [], ◌∷◌, ◌++◌, None, length, take, get_or, ◌+◌, ◌<◌, nat_eq, eqb, filter, true, refl, sym, ap, subst, ◌∙◌, if◌then◌else◌}
+use Rattle.std.proofs.Common.{◌≡◌, ◌≢◌, ℕ, Bool, Some, List, [], ◌∷◌, ◌++◌, length, take, get_or, ◌+◌, ◌<◌, nat_eq, filter, refl, sym, ap, ◌∙◌}
 use Rattle.std.proofs.lemmas.List.{take_more}
 use mathlib.Core.Path.{fun_ext}
 use Rattle.std.specs.List.{AllByRecursion}

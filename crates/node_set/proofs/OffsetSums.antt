@@ -1,16 +1,16 @@
 -- The sums that a block's byte offset is made of: its roots' and its left siblings' sizes.
-use Rattle.std.proofs.Common.{◌≡◌, ◌≢◌, ℕ, zero, suc, Bool, true, IsTrue, ◌+◌, ◌-◌, ◌*◌, ◌/◌, ◌%◌, ◌^◌, ◌<◌, ◌≤◌, List, length, take, refl, sym, ap, subst, ◌∙◌, arith, add-one}
+use Rattle.std.proofs.Common.{◌≡◌, ◌≢◌, ℕ, suc, Bool, true, ◌+◌, ◌-◌, ◌*◌, ◌/◌, ◌%◌, ◌^◌, ◌<◌, ◌≤◌, List, length, take, sym, ap, ◌∙◌, arith, add-one}
 use Rattle.std.specs.List.{AllByRecursion}
 use Rattle.std.proofs.lemmas.List.Elements.{All-from_recursion}
 use Rattle.std.proofs.lemmas.List.Sums.{sum_by-le, sum_by-take-le}
-use Rattle.flat_tree.specs.Subtrees.{Subtree, subtree, end_block_of}
+use Rattle.flat_tree.specs.Subtrees.{subtree, end_block_of}
 use Rattle.flat_tree.specs.Roots.{full_roots_of, place_over, depth_over}
 use Rattle.flat_tree.specs.declared.limits.TheConstants.{MAX_ROOTS, MAX_CORE_BYTES}
 use Rattle.flat_tree.proofs.OverLemmas.{root-over}
 use Rattle.flat_tree.proofs.RootLemmas.{tile-full, tile-get}
 use Rattle.merkle_nodes.specs.declared.node.Node.{Node}
 use Rattle.node_set.specs.Contents.{Values, bytes_under}
-use Rattle.node_set.specs.Closure.{any_under, in_closure}
+use Rattle.node_set.specs.Closure.{in_closure}
 use Rattle.node_set.specs.Offsets.{left_step, left_bytes}
 use Rattle.node_set.proofs.ClosureLemmas.{halves_in_closure}
 use Rattle.node_set.proofs.OffsetTruth.{path_within}

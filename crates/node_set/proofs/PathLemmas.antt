@@ -1,8 +1,8 @@
 -- The path of a block: its nodes' numbers, the root over it, and the first stored node.
-use Rattle.std.proofs.Common.{◌≡◌, ℕ, zero, suc, Bool, true, false, ◌+◌, ◌-◌, ◌*◌, ◌/◌, ◌^◌, ◌<◌, ◌≤◌, inl, inr, refl, sym, ap, subst, ◌∙◌, arith, add-one, if◌then◌else◌}
+use Rattle.std.proofs.Common.{◌≡◌, ℕ, zero, suc, Bool, true, false, ◌+◌, ◌-◌, ◌*◌, ◌/◌, ◌^◌, ◌<◌, ◌≤◌, inl, inr, sym, ap, ◌∙◌, arith}
 use Rattle.std.specs.Prelude.{is_some}
-use Rattle.std.proofs.lemmas.Bool.{cases_lt, cases_eq, cases_Bool}
-use Rattle.std.proofs.lemmas.Nat.{pow-add, pow_pos}
+use Rattle.std.proofs.lemmas.Bool.{cases_eq}
+use Rattle.std.proofs.lemmas.Nat.{pow-add}
 use Rattle.std.proofs.Math.Nat.{div-le_of_le-mul}
 use Rattle.flat_tree.specs.Subtrees.{Subtree, subtree}
 use Rattle.flat_tree.specs.Roots.{full_roots_of, place_over, depth_over}
@@ -41,8 +41,8 @@ first_is_root n bits index top at within is past none = record {
   first = λ level low. none level (omega (arith, low, past));
 }
 
-module _ (n : ℕ) (bits : ℕ → Bool) (node : Values) (closed : (depth offset : ℕ) → is_some (node depth offset) ≡ in_closure n bits depth offset) (index levels : ℕ)
-    (is : IsFirstStored n bits index levels) where
+module _ (n : ℕ) (bits : ℕ → Bool) (node : Values) (closed : (depth offset : ℕ) → is_some (node depth offset) ≡ in_closure n bits depth offset)
+    (index levels : ℕ) (is : IsFirstStored n bits index levels) where
   -- the first stored node, looked for from some level up
   levels_from : (steps depth : ℕ) → depth + steps ≡ depth_over n index → depth ≤ levels → levels_to steps node depth (index / 2 ^ depth) + depth ≡ levels
   unfolding levels_to

@@ -1,14 +1,16 @@
 -- Worked cases of contents.
-use Rattle.std.proofs.Common.{◌≡◌, ℕ, Bool, true, false, List, [], ◌∷◌, map, codes, Option, Some, None, is_some, replicate, if◌then◌else◌, refl}
+use Rattle.std.proofs.Common.{◌≡◌, ℕ, List, [], ◌∷◌, map, codes, Some, None, is_some, replicate, if◌then◌else◌, refl}
 use Rattle.std.specs.List.{flat_map}
-use Rattle.flat_tree.specs.Subtrees.{number, end_block_of, first_block_of}
+use Rattle.flat_tree.specs.Subtrees.{number, end_block_of}
 use Rattle.flat_tree.specs.Roots.{full_roots_of, roots_below, place_past, depth_past}
 use Rattle.flat_tree.specs.Covers.{cover_of, cover_in, largest_up_to}
 use Rattle.merkle_nodes.specs.Sound.{below}
 use Rattle.merkle_nodes.specs.Joined.{joined, value_in}
-use Rattle.node_set.specs.Contents.{Content, Values, start, no_twig}
+use Rattle.node_set.specs.Contents.{Content, start, no_twig}
 use Rattle.node_set.specs.Closure.{any_under}
 use Rattle.node_set.specs.Changes.{append_content, truncate_content, clear_content, upgrade_content, blocks_with_one, content_on}
+use Rattle.merkle_nodes.specs.declared.node.Node.{Node}
+use Rattle.node_set.specs.Nodes.{with_nodes}
 use Rattle.node_set.specs.Offsets.{levels_to, need_of, left_bytes, offset_of, spot_below, seek_at}
 
 -- the numbers of the stored nodes, by depth
@@ -78,3 +80,13 @@ bytes_are_in = (refl, refl, refl, refl)
 pub cleared_byte : (seek_at (clear_content 2 3 sizes) 3 ≡ None) × (seek_at (clear_content 2 3 sizes) 2 ≡ Some 0)
 unfolding joined any_under end_block_of left_bytes full_roots_of roots_below depth_past place_past spot_below
 cleared_byte = (refl, refl)
+
+-- of two nodes with one number the later counts, and the others stay
+abbrev sized_root : ℕ → Node
+sized_root size = record { index = 7; size = size; hash = [] }
+
+pub later_node_counts :
+    (with_nodes upgraded.node (sized_root 1 ∷ sized_root 2 ∷ []) 3 0 ≡ Some (record { size = 2; hash = [] }))
+    × (with_nodes upgraded.node (sized_root 1 ∷ []) 2 0 ≡ None)
+unfolding with_nodes number joined value_in any_under end_block_of cover_of cover_in largest_up_to
+later_node_counts = (refl, refl)

@@ -1,10 +1,10 @@
 -- The closure told from the held blocks alone: the first one of a subtree, and numbers past the length.
-use Rattle.std.proofs.Common.{◌≡◌, ℕ, suc, Bool, true, false, Some, None, ◌+◌, ◌*◌, ◌/◌, ◌<◌, ◌≤◌, inl, inr, refl, sym, ◌∙◌, arith, nat_lt}
+use Rattle.std.proofs.Common.{◌≡◌, ℕ, Bool, true, false, ◌+◌, ◌*◌, ◌/◌, ◌≤◌, inl, inr, sym, ◌∙◌, arith, nat_lt}
 use Rattle.std.proofs.lemmas.Bool.{cases_lt, cases_Bool, lt-ltb, le-ltb}
 use Rattle.flat_tree.specs.Subtrees.{number, first_block_of, end_block_of}
 use Rattle.flat_tree.proofs.NumberLemmas.{number_below, end_first}
 use Rattle.bit_field.specs.Places.{IsFirst, AllHave}
-use Rattle.node_set.specs.Closure.{any_under, in_closure, IsUnder}
+use Rattle.node_set.specs.Closure.{any_under, in_closure}
 use Rattle.node_set.proofs.ClosureLemmas.{any_under-held, held-any_under, true_closure}
 
 module _ (held : ℕ → Bool) (depth offset first end n : ℕ) (starts : first_block_of depth offset ≡ first) (ends : end_block_of depth offset ≡ end) where

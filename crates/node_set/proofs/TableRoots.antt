@@ -1,8 +1,8 @@
 -- Roots looked up one after the other.
-use Rattle.std.proofs.Common.{◌≡◌, ℕ, Bool, ◌+◌, ◌<◌, ◌≤◌, List, [], ◌∷◌, ◌++◌, length, take, map, get_or, slice_get, option_map, Some, None, refl, sym, ap, subst, ◌∙◌, arith}
+use Rattle.std.proofs.Common.{◌≡◌, ℕ, true, false, ◌+◌, ◌<◌, ◌≤◌, List, [], ◌∷◌, ◌++◌, length, take, map, get_or, slice_get, option_map, Some, refl, sym, ap, subst, ◌∙◌, arith}
 use Rattle.std.specs.Prelude.{Option}
 use Rattle.std.specs.List.{AllByRecursion}
-use Rattle.std.proofs.lemmas.List.{map_push, take_more, take_all}
+use Rattle.std.proofs.lemmas.List.{map_push, take_more}
 use Rattle.std.proofs.lemmas.Option.{slice_get-map, slice_get-get_or}
 use Rattle.flat_tree.specs.Subtrees.{Subtree, number, numbers_of}
 use Rattle.flat_tree.specs.Roots.{full_roots_of}
@@ -11,8 +11,9 @@ use Rattle.merkle_nodes.specs.declared.node.Node.{Node}
 use Rattle.merkle_nodes.specs.declared.node.Twig.{Twig}
 use Rattle.merkle_nodes.specs.Roots.{twig_of, node_of}
 use Rattle.node_set.specs.Contents.{Values, node_at, roots_at}
-use Rattle.node_set.specs.Closure.{closed_on}
-use Rattle.node_set.specs.Tables.{FitsAsRoot, RootsFit}
+use Rattle.bit_field.specs.Places.{has}
+use Rattle.node_set.specs.Nodes.{values_of}
+use Rattle.node_set.specs.Tables.{Parts, shown, FitsAsRoot, RootsFit}
 use Rattle.flat_tree.proofs.RootLemmas.{length-numbers}
 use Rattle.node_set.proofs.AppendLemmas.{all_get}
 use Rattle.node_set.proofs.ClosureLemmas.{root_in_closure}
@@ -30,17 +31,14 @@ pub record IsRootsOf (value : Values) (trees : List Subtree) (roots : List Node)
   pub sizes : AllByRecursion (λ (node : Node). node.size ≤ MAX_CORE_BYTES) roots
   pub fit : AllByRecursion (λ (tree : Subtree). FitsAsRoot (value tree.depth tree.offset)) trees
 
-pub roots_none : (value : Values) (trees : List Subtree) (roots : List Node) → roots ≡ [] → IsRootsOf value (take 0 trees) roots
-roots_none value trees roots none = record { nodes = none; sizes = rw none tt; fit = tt }
-
 -- the subtree at a place has the number there
 pub tree_there : (trees : List Subtree) (places : List ℕ) (at index : ℕ) (blank : Subtree) → places ≡ numbers_of trees → at < length trees
     → slice_get places at ≡ Some index → number (get_or trees at blank).depth (get_or trees at blank).offset ≡ index
 tree_there trees places at index blank is within there =
     let of_tree = λ (tree : Subtree). number tree.depth tree.offset in
     let tree = get_or trees at blank in
-    let found : Some (of_tree tree) ≡ Some index =
-    sym (slice_get-map of_tree trees at ∙ ap (λ (o : Option Subtree). option_map of_tree o) (slice_get-get_or trees at blank within)) ∙ sym (ap (λ (xs : List ℕ). slice_get xs at) is) ∙ there in
+    let of_numbers = slice_get-map of_tree trees at ∙ ap (λ (o : Option Subtree). option_map of_tree o) (slice_get-get_or trees at blank within) in
+    let found : Some (of_tree tree) ≡ Some index = sym of_numbers ∙ sym (ap (λ (xs : List ℕ). slice_get xs at) is) ∙ there in
     cc
 
 -- the subtree that roots are read at past their end
@@ -52,53 +50,53 @@ abbrev pub root_tree : ℕ → ℕ → Subtree
 root_tree n at = get_or (full_roots_of n) at blank_tree
 
 -- the full roots' numbers stand in these places, one of which is read
-pub record IsRootRead (n : ℕ) (places : List ℕ) (at index : ℕ) : Type 0 where
-  pub numbers : places ≡ numbers_of (full_roots_of n)
-  pub within : at < length places
-  pub there : slice_get places at ≡ Some index
-
-module _ (n : ℕ) (places : List ℕ) (at index : ℕ) (read : IsRootRead n places at index) where
+module _ (n : ℕ) (places : List ℕ) (count at index : ℕ) (numbers : places ≡ numbers_of (full_roots_of n)) (all : count ≡ length places) (within : at < count)
+    (there : slice_get places at ≡ Some index) where
   inside : at < length (full_roots_of n)
-  inside = omega (arith, read.within, length-numbers places (full_roots_of n) read.numbers)
+  inside = omega (arith, within, all, length-numbers places (full_roots_of n) numbers)
 
   pub root_number : number (root_tree n at).depth (root_tree n at).offset ≡ index
-  root_number = tree_there (full_roots_of n) places at index blank_tree read.numbers inside read.there
+  root_number = tree_there (full_roots_of n) places at index blank_tree numbers inside there
 
   -- where the root there doesn't fit, not all do
-  pub root_refused : (value : Values) → RootsFit value n → FitsAsRoot (value (root_tree n at).depth (root_tree n at).offset)
-  root_refused value fit =
-      all_get (λ (tree : Subtree). FitsAsRoot (value tree.depth tree.offset)) (full_roots_of n) at (root_tree n at) fit
-      (slice_get-get_or (full_roots_of n) at blank_tree inside)
+  pub root_refused : (value : Values) → ((depth offset : ℕ) → number depth offset ≡ index → FitsAsRoot (value depth offset) → false ≡ true)
+      → RootsFit value n → false ≡ true
+  root_refused value none fit =
+      let tree = root_tree n at in
+      let here = all_get (λ (tree : Subtree). FitsAsRoot (value tree.depth tree.offset)) (full_roots_of n) at tree fit
+      (slice_get-get_or (full_roots_of n) at blank_tree inside) in
+      none tree.depth tree.offset root_number here
 
   -- one root more
   pub roots_next : (value : Values) (roots more : List Node) (node : Node) → IsRootsOf value (take at (full_roots_of n)) roots → more ≡ roots ++ node ∷ []
-      → value (root_tree n at).depth (root_tree n at).offset ≡ Some (twig_of node) → node.index ≡ index → node.size ≤ MAX_CORE_BYTES
-      → IsRootsOf value (take (at + 1) (full_roots_of n)) more
-  roots_next value roots more node so_far pushed there numbered size =
+      → ((depth offset : ℕ) → number depth offset ≡ index → value depth offset ≡ Some (twig_of node)) → node.index ≡ index
+      → node.size ≤ MAX_CORE_BYTES → IsRootsOf value (take (at + 1) (full_roots_of n)) more
+  roots_next value roots more node so_far pushed found numbered size =
       let tree = root_tree n at in
+      let stored = found tree.depth tree.offset root_number in
       let trees = full_roots_of n in
       let of_tree = λ (tree : Subtree). node_at value tree.depth tree.offset in
       let is : node ≡ of_tree tree = ap (λ (i : ℕ). record { index = i; size = node.size; hash = node.hash }) (numbered ∙ sym root_number)
-      ∙ ap (λ (twig : Twig). node_of tree.depth tree.offset twig) (sym (twig_at-some value tree.depth tree.offset (twig_of node) there)) in
+      ∙ ap (λ (twig : Twig). node_of tree.depth tree.offset twig) (sym (twig_at-some value tree.depth tree.offset (twig_of node) stored)) in
       let taken = take_more trees at blank_tree inside in
       let nodes : roots ++ node ∷ [] ≡ map of_tree (take (at + 1) trees) =
       ap (λ (ns : List Node). ns ++ node ∷ []) so_far.nodes
       ∙ ap (λ (x : Node). map of_tree (take at trees) ++ x ∷ []) is
       ∙ sym (map_push of_tree (take at trees) tree)
       ∙ ap (map of_tree) (sym taken) in
-      let fits : FitsAsRoot (value tree.depth tree.offset) = subst FitsAsRoot (sym there) size in
+      let small = λ (node : Node). node.size ≤ MAX_CORE_BYTES in
+      let fits_at = λ (tree : Subtree). FitsAsRoot (value tree.depth tree.offset) in
+      let fits : FitsAsRoot (value tree.depth tree.offset) = subst FitsAsRoot (sym stored) size in
       record {
         nodes = pushed ∙ nodes;
-        sizes = subst (AllByRecursion (λ (node : Node). node.size ≤ MAX_CORE_BYTES)) (sym pushed) (all_push (λ (node : Node). node.size ≤ MAX_CORE_BYTES) roots node so_far.sizes size);
-        fit = subst (AllByRecursion (λ (tree : Subtree). FitsAsRoot (value tree.depth tree.offset))) (sym taken)
-            (all_push (λ (tree : Subtree). FitsAsRoot (value tree.depth tree.offset)) (take at trees) tree so_far.fit fits);
+        sizes = subst (AllByRecursion small) (sym pushed) (all_push small roots node so_far.sizes size);
+        fit = subst (AllByRecursion fits_at) (sym taken) (all_push fits_at (take at trees) tree so_far.fit fits);
       }
 
--- all roots
-pub roots_all : (value : Values) (n at : ℕ) (roots : List Node) → length (full_roots_of n) ≤ at → IsRootsOf value (take at (full_roots_of n)) roots
-    → IsRootsOf value (full_roots_of n) roots
-roots_all value n at roots past so_far = subst (λ (trees : List Subtree). IsRootsOf value trees roots) (take_all at (full_roots_of n) past) so_far
-
 -- the roots are among the values of the closure
-pub roots_at-closed : (n : ℕ) (held : ℕ → Bool) (value : Values) → roots_at (closed_on n held value) n ≡ roots_at value n
-roots_at-closed n held value = roots_same n (closed_on n held value) value (λ d o root. rw (root_in_closure n held d o root) refl)
+pub shown_roots : (parts : Parts) (roots : List Node) → roots ≡ roots_at (values_of parts.nodes) parts.head.length
+    → roots ≡ roots_at (shown parts).node parts.head.length
+shown_roots parts roots are =
+    let n = parts.head.length in
+    let value = values_of parts.nodes in
+    are ∙ roots_same n value (shown parts).node (λ d o root. rw (root_in_closure n (has parts.held) d o root) refl)

@@ -1,5 +1,5 @@
 -- What an append, a truncation, a clearing, an upgrade and a fetched block make of a content.
-use Rattle.std.specs.Prelude.{◌≡◌, ℕ, Bool, true, is_some, ◌+◌, ◌-◌, ◌&&◌, ◌||◌, not, List, length, Option, Some, None, nat_le, nat_lt, nat_eq, IsTrue, ◌<◌, ◌≤◌, sum_by, if◌then◌else◌, slice_get}
+use Rattle.std.specs.Prelude.{◌≡◌, ℕ, Bool, true, is_some, ◌+◌, ◌-◌, ◌&&◌, List, length, Some, None, nat_le, nat_lt, nat_eq, IsTrue, ◌<◌, ◌≤◌, sum_by, if◌then◌else◌, slice_get}
 use Rattle.merkle_nodes.specs.declared.node.Twig.{Twig}
 use Rattle.merkle_nodes.specs.Joined.{joined, with_blocks, with_parts, or_value}
 use Rattle.flat_tree.specs.Covers.{cover_of}

@@ -1,5 +1,5 @@
 -- Which nodes are to be stored for a log's length and its held blocks: the closure, as a test and in words.
-use Rattle.std.specs.Prelude.{◌≡◌, ℕ, zero, suc, Bool, true, ◌+◌, ◌*◌, ◌/◌, ◌^◌, ◌<◌, ◌≤◌, ◌⊎◌, not, ◌&&◌, ◌||◌, nat_le, if◌then◌else◌, None}
+use Rattle.std.specs.Prelude.{◌≡◌, ℕ, zero, suc, Bool, true, ◌+◌, ◌*◌, ◌/◌, ◌<◌, ◌≤◌, ◌⊎◌, not, ◌&&◌, ◌||◌, nat_le, if◌then◌else◌, None}
 use Rattle.flat_tree.specs.Subtrees.{first_block_of, end_block_of}
 use Rattle.merkle_nodes.specs.Joined.{Values}
 

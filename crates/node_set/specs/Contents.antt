@@ -1,5 +1,5 @@
 -- What a holder has of a log.
-use Rattle.std.specs.Prelude.{ℕ, Bool, List, Option, Some, None, is_some, replicate, map, sum_by, if◌then◌else◌}
+use Rattle.std.specs.Prelude.{ℕ, Bool, List, Option, Some, None, is_some, replicate, map, sum_by}
 use Rattle.flat_tree.specs.Subtrees.{Subtree}
 use Rattle.flat_tree.specs.Roots.{full_roots_of}
 use Rattle.commit_book.specs.History.{Summary}

@@ -1,5 +1,5 @@
 -- Where blocks stand: levels up to the first stored node, a block's byte offset, and the block that has a byte.
-use Rattle.std.specs.Prelude.{ℕ, zero, suc, Bool, ◌+◌, ◌-◌, ◌/◌, ◌%◌, ◌==◌, ◌&&◌, List, length, take, sum_by, Option, Some, None, is_some, nat_le, nat_lt, if◌then◌else◌}
+use Rattle.std.specs.Prelude.{ℕ, zero, suc, Bool, ◌+◌, ◌-◌, ◌/◌, ◌%◌, ◌==◌, ◌&&◌, List, length, take, Option, Some, None, is_some, nat_le, nat_lt, if◌then◌else◌}
 use Rattle.flat_tree.specs.Roots.{place_over, depth_over}
 use Rattle.node_set.specs.Contents.{Content, Values, Blocks, twig_at, roots, bytes_under}
 

@@ -1,5 +1,5 @@
 -- The way from a node up to the root over it.
-use Rattle.std.specs.Prelude.{ℕ, suc, zero, ◌+◌, ◌-◌, ◌*◌, ◌/◌, ◌%◌, ◌^◌, ◌==◌, ◌&&◌, Bool, List, [], ◌∷◌, map, take, length, Option, Some, None, is_some, nat_lt, slice_index_or, if◌then◌else◌}
+use Rattle.std.specs.Prelude.{ℕ, ◌+◌, ◌-◌, ◌*◌, ◌/◌, ◌%◌, ◌^◌, ◌==◌, ◌&&◌, Bool, List, map, take, Some, None, is_some, nat_lt, slice_index_or, if◌then◌else◌}
 use Rattle.std.specs.List.{range_with_len, list_all}
 use Rattle.std.specs.Int.{w64, trailing_ones}
 use Rattle.merkle_nodes.specs.declared.node.Twig.{Twig}

@@ -1,5 +1,5 @@
 -- Whether a node is stored with a size and a hash.
-use Rattle.std.specs.Prelude.{ℕ, Bool, false, ◌&&◌, Option, Some, None, nat_eq}
+use Rattle.std.specs.Prelude.{Bool, false, ◌&&◌, Option, Some, None, nat_eq}
 use Rattle.std.specs.Str.{bytes_eq}
 use Rattle.merkle_nodes.specs.declared.node.Twig.{Twig}
 

@@ -2,6 +2,7 @@
 use Rattle.node_set.specs.declared.table.TableView.TheInside.{Inside}
 use Rattle.node_set.specs.Tables.{Table}
 
+-- its parts, its roots and its counts
 abbrev pub table_of : Inside → Table
 table_of inside = record {
   parts = record { head = inside.head; held = inside.held; nodes = inside.nodes; blocks = inside.blocks.items };

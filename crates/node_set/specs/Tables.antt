@@ -1,5 +1,5 @@
 -- What is seen of a view in memory: the content that its parts show, and what they keep.
-use Rattle.std.specs.Prelude.{◌≡◌, ℕ, ◌^◌, ◌-◌, Bool, true, false, ◌≤◌, List, length, Option, Some, None, IsTrue, slice_get, if◌then◌else◌}
+use Rattle.std.specs.Prelude.{◌≡◌, ℕ, ◌^◌, ◌-◌, Bool, ◌≤◌, List, length, Option, Some, None, IsTrue, slice_get, if◌then◌else◌}
 use Rattle.std.specs.List.{AllByRecursion}
 use Rattle.flat_tree.specs.Subtrees.{Subtree}
 use Rattle.flat_tree.specs.Roots.{full_roots_of}

@@ -1,12 +1,10 @@
 -- What is seen of a view, and what its calls do to it.
-use Rattle.std.specs.Prelude.{◌≡◌, ◌≢◌, ℕ, Bool, true, ◌<◌, ◌≤◌, List, length, take, Option, Some, None, is_some, Result, IfOk, IfErr, IsErr, IsTrue, option_map}
+use Rattle.std.specs.Prelude.{◌≡◌, ℕ, Bool, true, ◌<◌, ◌≤◌, List, length, take, Option, Some, is_some, Result, IfErr, IsTrue, option_map}
 use Rattle.std.specs.List.{AllByRecursion}
 use Rattle.outside_traits.specs.Faults.{Rose}
 use Rattle.flat_tree.specs.Subtrees.{number}
 use Rattle.flat_tree.specs.declared.limits.TheConstants.{MAX_BLOCKS, MAX_FORK, MAX_BLOCK_BYTES, MAX_CORE_BYTES}
 use Rattle.merkle_nodes.specs.declared.node.Node.{Node}
-use Rattle.merkle_nodes.specs.declared.node.Twig.{Twig}
-use Rattle.merkle_nodes.specs.declared.roots.Head.{Head}
 use Rattle.merkle_nodes.specs.Roots.{twig_of}
 use Rattle.node_set.specs.declared.fault.CoreFault.{CoreFault}
 use Rattle.node_set.specs.declared.fault.CoreFault.TheVariants.{StoreFault}

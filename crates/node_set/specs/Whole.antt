@@ -1,11 +1,11 @@
 -- When a content is whole: its nodes, blocks and head agree, and nothing else is stored.
-use Rattle.std.specs.Prelude.{◌≡◌, ℕ, Bool, true, ◌+◌, ◌*◌, ◌<◌, ◌≤◌, ◌⊎◌, List, length, Some, is_some, replicate}
+use Rattle.std.specs.Prelude.{◌≡◌, ℕ, Bool, ◌+◌, ◌*◌, ◌<◌, ◌≤◌, ◌⊎◌, List, length, Some, is_some, replicate}
 use Rattle.flat_tree.specs.declared.limits.TheConstants.{MAX_BLOCKS, MAX_FORK, MAX_BLOCK_BYTES, MAX_CORE_BYTES}
 use Rattle.merkle_nodes.specs.declared.node.Twig.{Twig}
 use Rattle.merkle_nodes.specs.Tree.{leaf_of, parent_of}
 use Rattle.merkle_nodes.specs.Roots.{Accepts}
 use Rattle.merkle_nodes.specs.Bundle.{TwigFits}
-use Rattle.node_set.specs.Contents.{Content, Blocks, Values, holds, held, roots, bytes_under}
+use Rattle.node_set.specs.Contents.{Content, Blocks, Values, holds, roots, bytes_under}
 use Rattle.node_set.specs.Closure.{in_closure}
 
 -- held blocks are below the length, and none is larger than a block may be

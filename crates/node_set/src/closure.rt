@@ -1,5 +1,5 @@
 //! Which nodes are to be stored.
-ghost use Rattle.std.specs.Prelude.{◌≡◌, ℕ, ◌*◌, ◌+◌, ◌≤◌, length as count};
+ghost use Rattle.std.specs.Prelude.{◌≡◌, ℕ, ◌+◌, ◌≤◌, length as count};
 ghost use Rattle.flat_tree.specs.Subtrees.{number, first_block_of, end_block_of};
 ghost use Rattle.bit_field.specs.Places.{has};
 ghost use Rattle.node_set.specs.Closure.{any_under, in_closure};
@@ -31,8 +31,8 @@ pub fn is_stored(length: u64, held: &Bits, index: u64) -> bool
 fn is_any_held(held: &Bits, first: u64, end: u64) -> bool
     requires some { first ≤ end }
     requires within { end ≤ count held.now }
-    ensures { (depth offset : ℕ) → first_block_of depth offset ≡ first → end_block_of depth offset ≡ end
-        → result ≡ any_under (has held.now) depth offset }
+    ensures { (depth offset : ℕ) → first_block_of depth offset ≡ first
+        → end_block_of depth offset ≡ end → result ≡ any_under (has held.now) depth offset }
 {
     match held.next_set(first) {
         Some(block) => block < end,

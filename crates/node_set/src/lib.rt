@@ -7,7 +7,6 @@ mod closure;
 mod fault;
 mod laws;
 mod nodes;
-mod offset;
 mod path;
 mod table;
 #[cfg(test)]
@@ -22,7 +21,6 @@ pub use laws::{
     nodes_are_of_the_log, offsets_are_of_the_log, truncate_stays_whole, upgrade_stays_whole,
 };
 pub use nodes::Nodes;
-pub use offset::byte_offset;
-pub use path::need;
+pub use path::{byte_offset, need};
 pub use table::TableView;
 pub use view::View;

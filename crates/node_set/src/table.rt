@@ -1,5 +1,5 @@
 //! A view in memory, for tests.
-ghost use Rattle.std.specs.Prelude.{◌≡◌, ◌↔◌, ℕ, ◌+◌, ◌<◌, ◌≤◌, ◌-◌, length, nat_eq, true, false, Some, None, IsSome, IfSome, IsTrue, IfOk};
+ghost use Rattle.std.specs.Prelude.{◌≡◌, ◌↔◌, ℕ, ◌<◌, ◌≤◌, ◌-◌, length, nat_eq, true, false, Some, None, IsSome, IfSome, IsTrue};
 ghost use Rattle.std.specs.List.{AllByRecursion};
 ghost use Rattle.flat_tree.specs.declared.limits.TheConstants.{MAX_BLOCKS, MAX_CORE_BYTES};
 ghost use Rattle.outside_traits.specs.Faults.{count_fault};
@@ -9,7 +9,7 @@ ghost use Rattle.merkle_nodes.specs.Roots.{twig_of};
 ghost use Rattle.node_set.specs.Contents.{roots_at};
 ghost use Rattle.node_set.specs.Whole.{IsSound, KeepsLimits};
 ghost use Rattle.node_set.specs.Nodes.{values_of};
-ghost use Rattle.node_set.specs.Tables.{Parts, parts_of, shown, FitsAsRoot, RootsFit, PartsFit, new_table, state_of};
+ghost use Rattle.node_set.specs.Tables.{parts_of, shown, FitsAsRoot, RootsFit, PartsFit, new_table, state_of};
 
 use crate::closure::is_stored;
 use crate::fault::CoreFault;
@@ -158,7 +158,8 @@ impl TableView {
     fn fail(&mut self, fault: CoreFault) -> CoreFault
         ensures fault { result ≡ fault }
         ensures kept { self.old.told ≤ self.new.told }
-        ensures told { self.new ≡ record self.old { told = count_fault self.old.told; last = Some fault } }
+        ensures told { self.new ≡
+            record self.old { told = count_fault self.old.told; last = Some fault } }
     {
         self.told = self.told.saturating_add(1);
         self.last = Some(fault);

@@ -2,7 +2,7 @@
 ghost use Rattle.std.specs.Prelude.{◌≡◌, ◌≤◌, IfOk, IfSome, IsTrue, length as count};
 ghost use Rattle.flat_tree.specs.declared.limits.TheConstants.{MAX_BLOCK_BYTES};
 
-use crate::{CoreFault, Fresh, Nodes, TableView, View, byte_offset, is_stored, need};
+use crate::{CoreFault, Nodes, TableView, View, byte_offset, is_stored, need};
 use bit_field::Bits;
 use disk_trait::Area;
 use flat_tree::{MAX_BLOCK_BYTES, RoomList};

@@ -1,20 +1,15 @@
-use Rattle.std.proofs.Common.{◌≡◌, ◌<◌, ◌≤◌, ◌+◌, length, ap, arith}
-use Rattle.std.specs.List.{concat}
-use Rattle.flat_tree.specs.declared.limits.TheConstants.{MAX_BATCH_BLOCKS, MAX_BATCH_BYTES}
-use Rattle.hypercore_cli.proofs.LimitLemmas.{limit_in-batch, limit_in-batch_bytes, limit_in-push}
+use Rattle.std.proofs.Common.{ap, length, arith}
+use Rattle.hypercore_cli.proofs.LimitLemmas.{joined-le, limit_in-line_joined, limit_in-push}
 use Rattle.hypercore_cli.proofs.log.add_line.Goals as goal
 
-pub returns-then-len-ge-MAX_BATCH_BLOCKS : goal.returns-then-len-ge-MAX_BATCH_BLOCKS
-returns-then-len-ge-MAX_BATCH_BLOCKS c =
-    limit_in-batch c.args.log.now c.args.line.now c.requires.fits c.requires.block (omega (arith, c.if-len-ge-MAX_BATCH_BLOCKS.true, c.len.ensures))
+pub passed-requires-clause-batch : goal.passed-requires-clause-batch
+passed-requires-clause-batch c = omega (arith, joined-le c.args.log.now c.requires.fits, ap length c.flat.ensures)
 
-pub returns-then-flat-line-gt-MAX_BATCH_BYTES : goal.returns-then-flat-line-gt-MAX_BATCH_BYTES
-returns-then-flat-line-gt-MAX_BATCH_BYTES c =
-    limit_in-batch_bytes c.args.log.now c.args.line.now c.requires.fits c.requires.block (omega (arith, c.if-len-ge-MAX_BATCH_BLOCKS.false, c.len.ensures))
-    (omega (arith, c.if-flat-line-gt-MAX_BATCH_BYTES.true, ap length c.flat.ensures))
+pub returns-in-Some : goal.returns-in-Some
+returns-in-Some c =
+    limit_in-line_joined c.args.log.now c.args.line.now c.in-Some.field-0 c.requires.fits (rw (c.len.ensures, c.flat.ensures) at c.in-Some.ensures)
 
 pub returns-in-Ok : goal.returns-in-Ok
 returns-in-Ok c =
-    let fits = limit_in-push c.args.log.now c.args.line.now c.requires.fits c.requires.block (omega (arith, c.if-len-ge-MAX_BATCH_BLOCKS.false, c.len.ensures))
-    (omega (arith, c.if-flat-line-gt-MAX_BATCH_BYTES.false, ap length c.flat.ensures)) in
+    let fits = limit_in-push c.args.log.now c.args.line.now c.requires.fits (rw (c.len.ensures, c.flat.ensures) at c.in_default.ensures) in
     (c.in-Ok.ensures.ok, rw c.in-Ok.ensures.ok fits)

@@ -1,6 +1,6 @@
 use Rattle.std.proofs.Common.{◌-◌, length}
 use Rattle.flat_tree.specs.declared.limits.TheConstants.{MAX_BATCH_BLOCKS}
-use Rattle.hypercore_cli.specs.Logs.{HasLog}
+use Rattle.hypercore_cli.proofs.LogReads.{HasLog}
 use Rattle.hypercore_cli.proofs.log.read_lines.Given as goal
 
 abbrev pub invariant-loop-log : goal.invariant-loop-log

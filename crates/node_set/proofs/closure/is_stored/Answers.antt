@@ -5,7 +5,9 @@ use Rattle.node_set.proofs.StoredTest.{past_closure, span_ordered}
 use Rattle.node_set.proofs.closure.is_stored.Goals as goal
 
 pub returns-then-index-places : goal.returns-then-index-places
-returns-then-index-places c = λ depth offset is. sym (past_closure _ (has c.args.held.now) depth offset (omega (arith, is, c.if-index-places.true, c.places.ensures.places, c.requires)))
+returns-then-index-places c =
+    let past = c.if-index-places.true in
+    λ depth offset is. sym (past_closure _ (has c.args.held.now) depth offset (omega (arith, is, past, c.places.ensures.places, c.requires)))
 
 pub is_any_held-requires-clause-some : goal.is_any_held-requires-clause-some
 is_any_held-requires-clause-some c =

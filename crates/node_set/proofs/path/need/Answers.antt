@@ -3,4 +3,5 @@ use Rattle.node_set.proofs.PathLemmas.{need_is}
 use Rattle.node_set.proofs.path.need.Goals as goal
 
 pub returns-clause-need : goal.returns-clause-need
-returns-clause-need g c = λ stands. IfOk-weaker c.first_stored.result _ _ (λ levels is. need_is _ (c.head.ensures.sound stands).0 _ _ is) c.first_stored.ensures.first
+returns-clause-need g c =
+    λ stands. IfOk-weaker c.first_stored.result _ _ (need_is _ (c.head.ensures.sound stands).0 _) c.first_stored.ensures.first

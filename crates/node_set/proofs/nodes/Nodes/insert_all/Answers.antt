@@ -9,5 +9,7 @@ loop-node-init c = (refl, omega arith)
 
 pub loop-node-preserved : goal.loop-node-preserved
 loop-node-preserved c =
-    let room = c.loop-node.invariant.1 in
-    (with_nodes-next c.args.nodes.now _ _ _ _ _ c.loop-node-test.true c.loop-node.invariant.0 c.insert.ensures.values, omega (arith, room, c.insert.ensures.room))
+    let so_far = c.loop-node.invariant in (
+      with_nodes-next c.args.nodes.now _ _ _ _ _ c.loop-node-test.true so_far.0 c.insert.ensures.values,
+      omega (arith, so_far.1, c.insert.ensures.room),
+    )

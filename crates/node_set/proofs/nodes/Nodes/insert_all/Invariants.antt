@@ -1,4 +1,4 @@
-use Rattle.std.proofs.Common.{◌≡◌, ◌+◌, ◌≤◌, length, take}
+use Rattle.std.proofs.Common.{◌≡◌, ◌+◌, ◌≤◌, take}
 use Rattle.node_set.specs.Nodes.{values_of, with_nodes}
 use Rattle.node_set.proofs.nodes.Nodes.insert_all.Given as goal
 

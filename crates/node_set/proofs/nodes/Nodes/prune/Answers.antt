@@ -15,7 +15,8 @@ pub returns-clause-values : goal.returns-clause-values
 returns-clause-values c =
     let n = c.args.length in
     let held = has c.args.held.now in
-    let kept = filter_same_pairs _ (λ (e : ℕ × Twig). in_closure_at n held e.0) _ (λ k v b w f' t. let is = sym (some_number k).1.1 in search rules) _ _ c.retain.ensures.filtered in
+    let stays = λ (e : ℕ × Twig). in_closure_at n held e.0 in
+    let kept = filter_same_pairs _ stays _ (λ k v b w f' t. let is = sym (some_number k).1.1 in search rules) _ _ c.retain.ensures.filtered in
     ap (λ (entries : List (ℕ × Twig)). λ (depth offset : ℕ). lookup (nat_eq (number depth offset)) entries) kept
     ∙ values-filter n held c.self.inside.map.entries
     ∙ ap (λ (nodes : NodeMap). closed_on n held (values_of nodes)) c.self.view_is

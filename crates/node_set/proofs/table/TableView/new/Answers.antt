@@ -1,21 +1,18 @@
-use Rattle.std.proofs.Common.{◌≡◌, List, sym, ap, ◌∙◌, rules, arith}
+use Rattle.std.proofs.Common.{List, rules, ap}
 use Rattle.merkle_nodes.specs.declared.node.Node.{Node}
-use Rattle.bit_field.specs.Places.{has}
-use Rattle.node_set.specs.Nodes.{values_of}
-use Rattle.node_set.specs.Tables.{Table, parts_of, new_table}
-use Rattle.node_set.proofs.TableRoots.{roots_at-closed}
+use Rattle.node_set.specs.Tables.{parts_of, new_table}
+use Rattle.node_set.proofs.TableRoots.{shown_roots}
 use Rattle.node_set.proofs.table.TableView.new.Goals as goal
 
 pub invariant_of-result : goal.invariant_of-result
-invariant_of-result c =
-    let roots = c.in_ok-roots.ensures.roots ∙ sym (roots_at-closed c.args.head.length (has c.args.held) (values_of c.args.nodes)) in record {
-      fit = search rules;
-      roots = roots;
-      sizes = c.in_ok-roots.ensures.sizes;
-      sound = c.requires.sound;
-    }
+invariant_of-result c = record {
+  fit = search rules;
+  roots = shown_roots (parts_of c.args.head c.args.held c.args.nodes c.args.blocks.items) _ c.in_ok-roots.ensures.roots;
+  sizes = c.in_ok-roots.ensures.sizes;
+  sound = c.requires.sound;
+}
 
 pub returns-clause-table : goal.returns-clause-table
 returns-clause-table c =
-    let roots = c.in_ok-roots.ensures.roots ∙ sym (roots_at-closed c.args.head.length (has c.args.held) (values_of c.args.nodes)) in
-    ap (λ (nodes : List Node). record (new_table (parts_of c.args.head c.args.held c.args.nodes c.args.blocks.items) c.args.stands) { roots = nodes }) roots
+    let parts = parts_of c.args.head c.args.held c.args.nodes c.args.blocks.items in
+    ap (λ (nodes : List Node). record (new_table parts c.args.stands) { roots = nodes }) (shown_roots parts _ c.in_ok-roots.ensures.roots)

@@ -1,4 +1,4 @@
-use Rattle.std.proofs.Common.{◌≡◌, IsTrue, subst}
+use Rattle.std.proofs.Common.{IsTrue, subst}
 use Rattle.node_set.specs.Whole.{IsSound, KeepsLimits}
 use Rattle.node_set.specs.Tables.{Table, shown}
 use Rattle.node_set.proofs.table.TableViewView.head.Goals as goal

@@ -1,8 +1,8 @@
-use Rattle.std.proofs.Common.{◌≡◌, ℕ, IsTrue, ◌+◌, ◌-◌, ◌*◌, ◌/◌, ◌^◌, ◌≤◌}
+use Rattle.std.proofs.Common.{◌≡◌, IsTrue, ◌+◌, ◌-◌, ◌*◌, ◌/◌, ◌^◌, ◌≤◌}
 use Rattle.flat_tree.specs.declared.limits.TheConstants.{MAX_CORE_BYTES}
 use Rattle.node_set.specs.Offsets.{left_bytes}
 use Rattle.node_set.specs.Walks.{KeepsView}
-use Rattle.node_set.proofs.offset.left_of_path.Given as goal
+use Rattle.node_set.proofs.path.left_of_path.Given as goal
 
 -- the view stays, and the bytes so far with those of the levels above are all
 abbrev pub invariant-loop-level : goal.invariant-loop-level

@@ -2,7 +2,7 @@ use Rattle.std.proofs.Common.{◌≡◌, true, ◌-◌, ◌/◌, ◌^◌, sym, �
 use Rattle.std.specs.Prelude.{is_some}
 use Rattle.node_set.proofs.PathLemmas.{place_fits}
 use Rattle.node_set.proofs.OffsetSums.{left_in_closure}
-use Rattle.node_set.proofs.offset.left_of_node.Goals as goal
+use Rattle.node_set.proofs.path.left_of_node.Goals as goal
 
 pub index-requires-clause-offset : goal.index-requires-clause-offset
 index-requires-clause-offset g c =

@@ -17,12 +17,24 @@ slice_range-drop xs from n to within =
     ∙ ap (λ k. drop n (take k (drop from xs))) (sym rest)
 
 -- bytes without a line feed, and as many more
+no_feed-joined : (bytes : List ℕ) (searched more : ℕ) → HasNoFeed (take searched bytes) → HasNoFeed (take more (drop searched bytes))
+    → HasNoFeed (take (searched + more) bytes)
+no_feed-joined bytes searched more front next =
+    subst HasNoFeed (sym (take-add searched more bytes))
+    (All-append (λ byte. byte ≢ line_feed) (take searched bytes) (take more (drop searched bytes)) front next)
+
+-- the same of a part
 pub no_feed-more : (bytes : List ℕ) (searched more end : ℕ) → HasNoFeed (take searched bytes) → more ≤ end - searched
     → HasNoFeed (take more (slice_range bytes searched end)) → HasNoFeed (take (searched + more) bytes)
 no_feed-more bytes searched more end front within next =
-    subst HasNoFeed (sym (take-add searched more bytes))
-    (All-append (λ byte. byte ≢ line_feed) (take searched bytes) (take more (drop searched bytes)) front
-    (subst HasNoFeed (take-take more (end - searched) (drop searched bytes) within) next))
+    no_feed-joined bytes searched more front (subst HasNoFeed (take-take more (end - searched) (drop searched bytes) within) next)
+
+-- the same of a whole piece
+pub no_feed-piece : (bytes : List ℕ) (at size : ℕ) → HasNoFeed (take at bytes) → HasNoFeed (slice_range bytes at (at + size))
+    → HasNoFeed (take (at + size) bytes)
+no_feed-piece bytes at size front piece =
+    let whole : at + size - at ≡ size = omega arith in
+    no_feed-joined bytes at size front (subst (λ n. HasNoFeed (take n (drop at bytes))) whole piece)
 
 -- a line, its line feed and what is behind them
 pub split_at_feed : (bytes : List ℕ) (at : ℕ) → at < length bytes → slice_index bytes at ≡ line_feed → bytes ≡ take at bytes ++ line_feed ∷ drop (at + 1) bytes

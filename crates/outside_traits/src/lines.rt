@@ -21,6 +21,9 @@ pub enum LineFault {
 // As much is asked of the source at least.
 const READ_BYTES: usize = 65_536;
 
+// A line feed is searched for in so many bytes at once.
+const PIECE_BYTES: usize = 32;
+
 /// The lines of a source. A line feed ends a line and is dropped, and the bytes behind the last
 /// one are a line where there are any.
 #[derive(Drop)]
@@ -207,10 +210,43 @@ fn len_before_feed(bytes: &[u8]) -> usize
     ensures no_feed { HasNoFeed (take result bytes.now) }
     ensures found { result < length bytes.now → slice_index bytes.now result ≡ line_feed }
 {
+    let clear = len_of_clear_pieces(bytes);
+    clear + len_before_near_feed(&bytes[clear..])
+}
+
+// `len_before_feed`, byte by byte.
+fn len_before_near_feed(bytes: &[u8]) -> usize
+    ensures within { result ≤ length bytes.now }
+    ensures no_feed { HasNoFeed (take result bytes.now) }
+    ensures found { result < length bytes.now → slice_index bytes.now result ≡ line_feed }
+{
     bytes
         .iter()
         .position(|byte| *byte == b'\n')
         .unwrap_or(bytes.len())
+}
+
+// How many bytes the whole pieces before the first one with a line feed have.
+fn len_of_clear_pieces(bytes: &[u8]) -> usize
+    ensures within { result ≤ length bytes.now }
+    ensures no_feed { HasNoFeed (take result bytes.now) }
+{
+    let mut at = 0;
+    while bytes.len() - at >= PIECE_BYTES && !has_feed(&bytes[at..at + PIECE_BYTES]) {
+        at += PIECE_BYTES;
+    }
+    at
+}
+
+// Looks at each byte, so that the compiler compares many at once.
+fn has_feed(piece: &[u8]) -> bool
+    ensures { result ≡ false → HasNoFeed piece.now }
+{
+    let mut found = false;
+    for byte in piece {
+        found |= *byte == b'\n';
+    }
+    found
 }
 
 // Moves the bytes of the range to the front of the place, and reads behind them.

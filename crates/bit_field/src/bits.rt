@@ -1,5 +1,5 @@
 ghost use Rattle.std.specs.Prelude.{◌≡◌, ℕ, ◌<◌, ◌≤◌, ◌+◌, ◌*◌, ◌/◌, ◌%◌, true, false};
-ghost use Rattle.std.specs.Prelude.{length, slice_index, IfOk, OnOk, OnErr};
+ghost use Rattle.std.specs.Prelude.{length, slice_index, [], IfOk, OnOk, OnErr};
 ghost use Rattle.bit_field.specs.Places.{has, count_below, SetsRange, Finds};
 ghost use Rattle.bit_field.specs.Pages.{is_set, page_of};
 ghost use Rattle.bit_field.specs.Words.{words_for};
@@ -35,6 +35,16 @@ impl Model for Bits {
 }
 
 impl Bits {
+    /// The set of no places. Takes no memory.
+    pub fn none(alloc: Global) -> Bits
+        ensures { result ≡ [] }
+    {
+        Bits {
+            words: Vec::new(alloc),
+            count: 0,
+        }
+    }
+
     /// The empty set of so many places.
     pub fn new(alloc: Global, count: u64) -> Result<Bits, Memory>
         requires within { count ≤ MAX_PLACES }

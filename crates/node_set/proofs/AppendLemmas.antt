@@ -1,5 +1,5 @@
 -- A whole content stays whole where blocks are appended.
-use Rattle.std.proofs.Common.{◌≡◌, ℕ, zero, suc, Bool, true, ◌+◌, ◌-◌, ◌*◌, ◌/◌, ◌^◌, ◌<◌, ◌≤◌, inl, inr, List, [], ◌∷◌, length, get_or, slice_get, Some, None, refl, sym, ap, subst, ◌∙◌, arith}
+use Rattle.std.proofs.Common.{◌≡◌, ℕ, zero, suc, Bool, true, ◌+◌, ◌-◌, ◌*◌, ◌/◌, ◌^◌, ◌<◌, ◌≤◌, inl, inr, List, [], ◌∷◌, ◌++◌, length, get_or, slice_get, Some, None, refl, sym, ap, subst, ◌∙◌, arith}
 use Rattle.std.specs.Prelude.{is_some}
 use Rattle.std.specs.List.{AllByRecursion}
 use Rattle.std.proofs.lemmas.Bool.{cases_lt, le-leb, lt-leb, lt-ltb, le-ltb}
@@ -138,6 +138,16 @@ pub all_get : {X : Type 0} (P : X → Type 0) (xs : List X) (k : ℕ) (x : X) �
 all_get P [] k x all is = cc
 all_get P (y ∷ xs) zero x all is = let same : y ≡ x = cc in subst P same all.0
 all_get P (y ∷ xs) (suc k) x all is = all_get P xs k x all.1 is
+
+-- what holds of each holds of one more
+pub all_push : {X : Type 0} (P : X → Type 0) (xs : List X) (x : X) → AllByRecursion P xs → P x → AllByRecursion P (xs ++ x ∷ [])
+all_push P [] x all here = (here, tt)
+all_push P (y ∷ xs) x all here = (all.0, all_push P xs x all.1 here)
+
+-- and what follows from it holds of each
+pub all_so : {X : Type 0} (P Q : X → Type 0) → ((x : X) → P x → Q x) → (xs : List X) → AllByRecursion P xs → AllByRecursion Q xs
+all_so P Q so [] all = tt
+all_so P Q so (x ∷ xs) all = (so x all.0, all_so P Q so xs all.1)
 
 module _ (m : Content) (more : List (List ℕ)) (sound : IsSound m) (fits : AppendFits more m) where
   abbrev after : Blocks

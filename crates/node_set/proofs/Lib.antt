@@ -16,6 +16,8 @@ pub mod AppendLemmas
 pub mod UpgradeLemmas
 pub mod StoredTest
 pub mod NodeMaps
+pub mod PageLemmas
+pub mod PrunedPages
 pub mod PathLemmas
 pub mod OffsetSums
 pub mod TableRoots

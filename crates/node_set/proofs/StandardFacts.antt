@@ -1,5 +1,5 @@
 -- Worked cases of contents.
-use Rattle.std.proofs.Common.{◌≡◌, ℕ, List, [], ◌∷◌, map, codes, Some, None, is_some, replicate, if◌then◌else◌, refl}
+use Rattle.std.proofs.Common.{◌≡◌, ℕ, List, [], ◌∷◌, map, codes, Some, None, is_some, true, false, replicate, if◌then◌else◌, refl}
 use Rattle.std.specs.List.{flat_map}
 use Rattle.flat_tree.specs.Subtrees.{number, end_block_of}
 use Rattle.flat_tree.specs.Roots.{full_roots_of, roots_below, place_past, depth_past}
@@ -10,7 +10,7 @@ use Rattle.node_set.specs.Contents.{Content, start, no_twig}
 use Rattle.node_set.specs.Closure.{any_under}
 use Rattle.node_set.specs.Changes.{append_content, truncate_content, clear_content, upgrade_content, blocks_with_one, content_on}
 use Rattle.merkle_nodes.specs.declared.node.Node.{Node}
-use Rattle.node_set.specs.Nodes.{with_nodes}
+use Rattle.node_set.specs.Nodes.{NodePages, nodes_in, has_place, value_at, values_of, with_nodes}
 use Rattle.node_set.specs.Offsets.{levels_to, need_of, left_bytes, offset_of, spot_below, seek_at}
 
 -- the numbers of the stored nodes, by depth
@@ -90,3 +90,18 @@ pub later_node_counts :
     × (with_nodes upgraded.node (sized_root 1 ∷ []) 2 0 ≡ None)
 unfolding with_nodes number joined value_in any_under end_block_of cover_of cover_in largest_up_to
 later_node_counts = (refl, refl)
+
+-- a page with no places, and one with two, of which one is taken
+abbrev two_places : NodePages
+two_places = nodes_in ([] ∷ (Some no_twig ∷ None ∷ []) ∷ [])
+
+pub places_of_pages :
+    (has_place two_places 0 ≡ false) × (has_place two_places 512 ≡ true) × (has_place two_places 513 ≡ true)
+    × (has_place two_places 514 ≡ false) × (has_place two_places 1024 ≡ false)
+places_of_pages = (refl, refl, refl, refl, refl)
+
+pub values_of_pages :
+    (value_at two_places 0 ≡ None) × (value_at two_places 512 ≡ Some no_twig) × (value_at two_places 513 ≡ None)
+    × (value_at two_places 1024 ≡ None) × (values_of two_places 0 256 ≡ Some no_twig)
+unfolding number
+values_of_pages = (refl, refl, refl, refl, refl)

@@ -1,6 +1,7 @@
 -- What a view in memory answers, by what its parts show.
 use Rattle.std.proofs.Common.{◌≡◌, ℕ, Bool, true, false, IsTrue, ◌<◌, ◌≤◌, List, [], ◌++◌, get_or, length, length-append, take, slice_get, Some, None, inl, inr, refl, sym, ap, subst, ◌∙◌, arith}
 use Rattle.std.specs.Prelude.{is_some, Err}
+use Rattle.std.specs.List.{AllByRecursion}
 use Rattle.std.proofs.lemmas.Bool.{cases_lt, cases_Bool}
 use Rattle.std.proofs.lemmas.List.{get_or_past}
 use Rattle.std.proofs.lemmas.Option.{slice_get-get_or}
@@ -19,7 +20,7 @@ use Rattle.node_set.specs.Closure.{in_closure}
 use Rattle.node_set.specs.Nodes.{values_of}
 use Rattle.node_set.specs.Tables.{Parts, shown, FitsAsRoot, PartsFit, Table, state_of, IsTable}
 use Rattle.node_set.proofs.Stored.{some_of}
-use Rattle.node_set.specs.Views.{ViewState, GivesNode, GivesBlock, HasViewCause}
+use Rattle.node_set.specs.Views.{ViewState, IsUsable, GivesNode, GivesBlock, HasViewCause}
 
 -- a place within has its bit, and no other
 pub has_within : (set : List Bool) (place : ℕ) → has set place ≡ true → place < length set
@@ -39,6 +40,16 @@ shown_held parts fit index = elim (cases_Bool (has parts.held index)) [
 
 pub held_is : (parts : Parts) → PartsFit parts → held (shown parts) ≡ has parts.held
 held_is parts fit = fun_ext (λ index. shown_held parts fit index)
+
+-- what a table shows keeps what every view keeps
+pub usable_table : (t : Table) → IsTable t → IsUsable (shown t.parts)
+usable_table t is = record {
+  blocks = is.fit.few;
+  fork = is.fit.fork;
+  sizes = subst (AllByRecursion (λ (node : Node). node.size ≤ MAX_CORE_BYTES)) is.roots is.sizes;
+  below = λ index there.
+      omega (arith, has_within t.parts.held index (sym (shown_held t.parts is.fit index) ∙ there), is.fit.held);
+}
 
 -- a table that is another with a call counted, of which what is given is said
 module _ (old t : Table) (left : ℕ) (called : t ≡ record old { left = left }) (is : IsTable t) (index : ℕ) where

@@ -15,15 +15,10 @@ use Rattle.bit_field.specs.Places.{has}
 use Rattle.node_set.specs.Nodes.{values_of}
 use Rattle.node_set.specs.Tables.{Parts, shown, FitsAsRoot, RootsFit}
 use Rattle.flat_tree.proofs.RootLemmas.{length-numbers}
-use Rattle.node_set.proofs.AppendLemmas.{all_get}
+use Rattle.node_set.proofs.AppendLemmas.{all_get, all_push}
 use Rattle.node_set.proofs.ClosureLemmas.{root_in_closure}
 use Rattle.node_set.proofs.RootTruth.{twig_at-some}
 use Rattle.node_set.proofs.SoundLemmas.{roots_same}
-
--- what holds of each holds of one more
-all_push : {X : Type 0} (P : X → Type 0) (xs : List X) (x : X) → AllByRecursion P xs → P x → AllByRecursion P (xs ++ x ∷ [])
-all_push P [] x all here = (here, tt)
-all_push P (y ∷ xs) x all here = (all.0, all_push P xs x all.1 here)
 
 -- the nodes are there for these subtrees, and are these
 pub record IsRootsOf (value : Values) (trees : List Subtree) (roots : List Node) : Type 0 where

@@ -1,26 +1,26 @@
 -- A whole content stays whole under an upgrade: the subtrees of the new part's cover have the values that came.
-use Rattle.std.proofs.Common.{◌≡◌, ℕ, zero, suc, Bool, true, false, ◌<◌, ◌≤◌, inl, inr, List, [], ◌∷◌, length, Option, Some, None, refl, sym, ap, subst, ◌∙◌, arith, nat_eq}
+use Rattle.std.proofs.Common.{◌≡◌, ℕ, zero, suc, Bool, true, false, ◌+◌, ◌<◌, ◌≤◌, inl, inr, List, [], ◌∷◌, length, Option, Some, None, refl, sym, ap, subst, ◌∙◌, arith, nat_eq}
 use Rattle.std.specs.Prelude.{is_some, ◌&&◌, sum_by}
 use Rattle.std.specs.List.{AllByRecursion, Contains}
 use Rattle.std.proofs.lemmas.Bool.{cases_lt, cases_Bool, le-leb, lt-leb, eq-eqb, eqb-true, and_parts, and_from}
 use Rattle.std.proofs.lemmas.List.Sums.{sum_by-cons}
 use Rattle.flat_tree.specs.Subtrees.{Subtree, subtree, first_block_of, end_block_of, Tile}
 use Rattle.flat_tree.specs.Covers.{cover_of}
-use Rattle.flat_tree.specs.declared.limits.TheConstants.{MAX_FORK}
+use Rattle.flat_tree.specs.declared.limits.TheConstants.{MAX_FORK, MAX_CORE_BYTES}
 use Rattle.flat_tree.proofs.NumberLemmas.{leaf, end_first}
 use Rattle.flat_tree.proofs.CoverLemmas.{tile-cover}
 use Rattle.merkle_nodes.specs.declared.node.Twig.{Twig}
 use Rattle.merkle_nodes.specs.Bundle.{TwigFits}
 use Rattle.merkle_nodes.specs.Joined.{joined, value_in, with_parts}
-use Rattle.node_set.specs.Contents.{Content, Values, holds}
+use Rattle.node_set.specs.Contents.{Content, Values, holds, roots, bytes_under}
 use Rattle.node_set.specs.Closure.{any_under}
 use Rattle.node_set.specs.Whole.{IsSound, IsWhole}
 use Rattle.node_set.specs.Changes.{upgrade_content, UpgradeFits, IsSigned}
 use Rattle.node_set.proofs.ClosureLemmas.{span_some, any_under-held}
 use Rattle.node_set.proofs.CoverLemmas.{true_between, IsCover, cover_has, in_cover_of, all_cover_of}
 use Rattle.node_set.proofs.CoverSums.{sum_over}
-use Rattle.node_set.proofs.SoundLemmas.{stored_value, size_of, size_stored, sound_on}
-use Rattle.node_set.proofs.JoinedLemmas.{joined-known, IsPaired, IsLonger, IsExtended, extended_sound, extended_whole}
+use Rattle.node_set.proofs.SoundLemmas.{stored_value, size_of, size_stored, sound_on, roots_on}
+use Rattle.node_set.proofs.JoinedLemmas.{joined-known, IsPaired, IsLonger, joined_bytes, IsExtended, extended_sound, extended_whole}
 
 -- ---- values beside a list of subtrees
 
@@ -130,7 +130,13 @@ value_in-sum (tree ∷ trees) (twig ∷ twigs) from to count tile =
 
 -- ---- an upgrade
 
-module _ (m : Content) (to : ℕ) (parts : List Twig) (sound : IsSound m) (fits : UpgradeFits to parts m) where
+-- a longer log has a value for each subtree of the new part's cover
+pub record HasParts (to : ℕ) (parts : List Twig) (m : Content) : Type 0 where
+  pub longer : m.length < to
+  pub count : length parts ≡ length (cover_of m.length to)
+  pub parts_fit : AllByRecursion TwigFits parts
+
+module _ (m : Content) (to : ℕ) (parts : List Twig) (sound : IsSound m) (fits : HasParts to parts m) where
   abbrev trees : List Subtree
   trees = cover_of m.length to
 
@@ -202,27 +208,40 @@ module _ (m : Content) (to : ℕ) (parts : List Twig) (sound : IsSound m) (fits 
           size_stored (joined known) tree.depth tree.offset value.0 value.1.1
           ∙ sym (size_stored (value_in trees parts) tree.depth tree.offset value.0 value.1.0)
 
-  upgrade_extended : IsExtended m to m.block known
-  upgrade_extended = record {
+  -- the roots' bytes grow by those of the parts
+  pub upgraded_bytes : (signature : List ℕ)
+      → bytes_under (roots (upgrade_content to parts signature m)) ≡ bytes_under (roots m) + sum_by (λ (twig : Twig). twig.size) parts
+  upgraded_bytes signature =
+      ap bytes_under (roots_on to m.block (joined known))
+      ∙ joined_bytes m to m.block known sound upgrade_longer
+      ∙ ap (λ (k : ℕ). bytes_under (roots m) + k) upgrade_bytes
+
+  upgrade_extended : bytes_under (roots m) + sum_by (λ (twig : Twig). twig.size) parts ≤ MAX_CORE_BYTES → IsExtended m to m.block known
+  upgrade_extended few = record {
     longer = upgrade_longer;
     old = λ index less is_held. is_held;
     blocks = record { below = λ index bytes is. omega (arith, sound.blocks.below index bytes is, low); size = sound.blocks.size };
     leaves = λ index bytes is.
         joined-known known 0 index _ (known_below 0 index (omega (arith, sound.blocks.below index bytes is, leaf index)) ∙ sound.leaves index bytes is);
     hashes = upgrade_hash;
-    bytes = omega (arith, upgrade_bytes, fits.bytes);
+    bytes = omega (arith, upgrade_bytes, few);
   }
 
 -- ---- the law
+
+parts_of_upgrade : (to : ℕ) (parts : List Twig) (m : Content) → UpgradeFits to parts m → HasParts to parts m
+parts_of_upgrade to parts m fits = record { longer = fits.longer; count = fits.count; parts_fit = fits.parts_fit }
 
 pub upgrade_sound : (m : Content) (to : ℕ) (parts : List Twig) (signature : List ℕ) → IsSound m → UpgradeFits to parts m
     → IsSound (upgrade_content to parts signature m)
 upgrade_sound m to parts signature sound fits =
     let known_now = with_parts m.length m.node (cover_of m.length to) parts in
-    sound_on to m.block (joined known_now) m.fork signature (extended_sound m to m.block known_now sound (upgrade_extended m to parts sound fits))
+    sound_on to m.block (joined known_now) m.fork signature
+    (extended_sound m to m.block known_now sound (upgrade_extended m to parts sound (parts_of_upgrade to parts m fits) fits.bytes))
 
 pub upgrade_whole : (accepts : List ℕ → List ℕ → Bool) (m : Content) (to : ℕ) (parts : List Twig) (signature : List ℕ) → IsSound m
-    → m.fork ≤ MAX_FORK → UpgradeFits to parts m → IsSigned accepts (upgrade_content to parts signature m) → IsWhole accepts (upgrade_content to parts signature m)
+    → m.fork ≤ MAX_FORK → UpgradeFits to parts m → IsSigned accepts (upgrade_content to parts signature m)
+    → IsWhole accepts (upgrade_content to parts signature m)
 upgrade_whole accepts m to parts signature sound fork fits signed =
     extended_whole accepts m to signature m.block (with_parts m.length m.node (cover_of m.length to) parts) sound fork
-    (upgrade_extended m to parts sound fits) fits.blocks signed
+    (upgrade_extended m to parts sound (parts_of_upgrade to parts m fits) fits.bytes) fits.blocks signed

@@ -1,6 +1,7 @@
 pub mod Same
 pub mod Refuses
 pub mod Contents
+pub mod Legal
 pub mod Closure
 pub mod Paths
 pub mod Whole

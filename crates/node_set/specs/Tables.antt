@@ -12,18 +12,18 @@ use Rattle.node_set.specs.declared.fault.CoreFault.{CoreFault}
 use Rattle.node_set.specs.Contents.{Content, Values, roots_at}
 use Rattle.node_set.specs.Whole.{IsSound, KeepsLimits}
 use Rattle.node_set.specs.Closure.{closed_on}
-use Rattle.node_set.specs.Nodes.{NodeMap, values_of}
+use Rattle.node_set.specs.Nodes.{NodePages, values_of}
 use Rattle.node_set.specs.Views.{ViewState}
 
 -- the parts of a view in memory: its head, whether each index is held, the nodes and the blocks on hand
 pub record Parts : Type 0 where
   pub head : Head
   pub held : List Bool
-  pub nodes : NodeMap
+  pub nodes : NodePages
   pub blocks : List (List ℕ)
 
 -- these parts
-abbrev pub parts_of : Head → List Bool → NodeMap → List (List ℕ) → Parts
+abbrev pub parts_of : Head → List Bool → NodePages → List (List ℕ) → Parts
 parts_of head held nodes blocks = record { head = head; held = held; nodes = nodes; blocks = blocks }
 
 -- the content that they show: the held blocks, and the nodes of the closure

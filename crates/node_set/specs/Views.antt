@@ -1,5 +1,5 @@
 -- What is seen of a view, and what its calls do to it.
-use Rattle.std.specs.Prelude.{◌≡◌, ℕ, Bool, true, ◌<◌, ◌≤◌, List, length, take, Option, Some, is_some, Result, IfErr, IsTrue, option_map}
+use Rattle.std.specs.Prelude.{◌≡◌, ℕ, Bool, true, ◌<◌, ◌≤◌, ◌⊎◌, List, length, take, Option, Some, None, is_some, Result, Ok, Err, IfErr, IsTrue, option_map}
 use Rattle.std.specs.List.{AllByRecursion}
 use Rattle.outside_traits.specs.Faults.{Rose}
 use Rattle.flat_tree.specs.Subtrees.{number}
@@ -62,3 +62,8 @@ pub record GivesBlock (v : ViewState) (index : ℕ) (place : List ℕ) (len : �
   pub size : len ≤ MAX_BLOCK_BYTES
   pub within : len ≤ length place
   pub content : IsTrue v.stands → v.content.block index ≡ Some (take len place)
+
+-- a call over a view answers a value for which this holds, or its refusal, or a fault that the view told in it
+abbrev pub AnswersBy : {T : Type 0} → ViewState → ViewState → Option CoreFault → (T → Type 0) → Result T CoreFault → Type 0
+AnswersBy old new refusal Gives (Ok value) = (refusal ≡ None) × Gives value
+AnswersBy old new refusal Gives (Err fault) = (refusal ≡ Some fault) ⊎ TellsFault old new fault

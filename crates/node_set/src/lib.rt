@@ -7,6 +7,7 @@ mod closure;
 mod fault;
 mod laws;
 mod nodes;
+mod page;
 mod path;
 mod table;
 #[cfg(test)]
@@ -21,6 +22,7 @@ pub use laws::{
     nodes_are_of_the_log, offsets_are_of_the_log, truncate_stays_whole, upgrade_stays_whole,
 };
 pub use nodes::Nodes;
+pub use page::PAGE_NODES;
 pub use path::{byte_offset, need};
 pub use table::TableView;
 pub use view::View;

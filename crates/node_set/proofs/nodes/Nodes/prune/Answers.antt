@@ -1,22 +1,20 @@
-use Rattle.std.proofs.Common.{rules, ℕ, List, sym, ap, ◌∙◌, nat_eq}
-use Rattle.std.specs.Map.{lookup}
-use Rattle.std.proofs.lemmas.Map.Made.{filter_same_pairs}
-use Rattle.flat_tree.specs.Subtrees.{number}
-use Rattle.flat_tree.proofs.NumberLemmas.{some_number}
-use Rattle.merkle_nodes.specs.declared.node.Twig.{Twig}
+use Rattle.std.proofs.Common.{ap, ◌∙◌, arith}
+use Rattle.std.proofs.lemmas.List.{with_items_is}
 use Rattle.bit_field.specs.Places.{has}
 use Rattle.node_set.specs.Closure.{closed_on}
-use Rattle.node_set.specs.Nodes.{NodeMap, values_of}
-use Rattle.node_set.proofs.NodeMaps.{in_closure_at, values-filter}
+use Rattle.node_set.specs.Nodes.{NodePages, nodes_in, values_of}
+use Rattle.node_set.proofs.PrunedPages.{cut_values}
 use Rattle.node_set.proofs.nodes.Nodes.prune.Goals as goal
 
--- the closure is asked for each number, so what is left is a filter
+-- the pages that are dropped have nothing that is to be stored
 pub returns-clause-values : goal.returns-clause-values
 returns-clause-values c =
     let n = c.args.length in
     let held = has c.args.held.now in
-    let stays = λ (e : ℕ × Twig). in_closure_at n held e.0 in
-    let kept = filter_same_pairs _ stays _ (λ k v b w f' t. let is = sym (some_number k).1.1 in search rules) _ _ c.retain.ensures.filtered in
-    ap (λ (entries : List (ℕ × Twig)). λ (depth offset : ℕ). lookup (nat_eq (number depth offset)) entries) kept
-    ∙ values-filter n held c.self.inside.map.entries
-    ∙ ap (λ (nodes : NodeMap). closed_on n held (values_of nodes)) c.self.view_is
+    let seen = λ (nodes : NodePages). closed_on n held (values_of nodes) in
+    let whole = with_items_is c.truncate.new.self c.prune_pages.new.pages (c.prune_pages.auto.pages ∙ c.as_mut_slice.ensures.len) in
+    ap (λ pages. values_of (nodes_in pages)) whole
+    ∙ c.prune_pages.ensures.values
+    ∙ ap (λ pages. seen (nodes_in pages)) (c.as_mut_slice.ensures.value ∙ c.truncate.ensures.items)
+    ∙ cut_values n held c.self.inside.pages.items _ (omega (arith, c.div_ceil.ensures))
+    ∙ ap seen c.self.view_is

@@ -1,1 +1,4 @@
 pub mod StandardFacts
+pub mod FoldLemmas
+pub mod WayLemmas
+pub mod SameLemmas

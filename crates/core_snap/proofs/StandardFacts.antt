@@ -1,22 +1,17 @@
 -- Worked cases of reads under a snapshot.
-use Rattle.std.proofs.Common.{◌≡◌, ℕ, Bool, true, false, List, [], ◌∷◌, map, codes, Option, Some, None, Result, Ok, Err, is_some, replicate, if◌then◌else◌, refl}
+use Rattle.std.proofs.Common.{◌≡◌, ℕ, List, [], ◌∷◌, map, codes, Result, Ok, Err, replicate, refl}
 use Rattle.blake2b_hash.specs.Blake2b.{G, round, rounds, F, words, state_after, last_state, blake2b, hash_of}
-use Rattle.flat_tree.specs.Subtrees.{number, end_block_of, first_block_of}
+use Rattle.flat_tree.specs.Subtrees.{number, end_block_of}
 use Rattle.flat_tree.specs.Roots.{full_roots_of, roots_below, place_past, depth_past}
-use Rattle.flat_tree.specs.Covers.{cover_of, cover_in, largest_up_to}
-use Rattle.merkle_nodes.specs.declared.node.Twig.{Twig}
-use Rattle.merkle_nodes.specs.Tree.{tree_of}
-use Rattle.merkle_nodes.specs.Joined.{joined, value_in}
-use Rattle.node_set.specs.Contents.{Content, start, no_twig, twig_at}
+use Rattle.merkle_nodes.specs.Joined.{joined}
+use Rattle.node_set.specs.Contents.{Content, start}
 use Rattle.node_set.specs.Closure.{any_under}
-use Rattle.merkle_nodes.specs.Roots.{roots_of}
-use Rattle.merkle_nodes.specs.Sound.{fold_inputs}
 use Rattle.node_set.specs.declared.fault.CoreFault.{CoreFault}
 use Rattle.node_set.specs.declared.fault.CoreFault.TheVariants.{OutOfRange, Unavailable}
 use Rattle.node_set.specs.Contents.{roots}
-use Rattle.node_set.specs.Changes.{append_content, truncate_content}
+use Rattle.node_set.specs.Changes.{append_content, truncate_content, clear_content}
 use Rattle.core_snap.specs.declared.snapshot.Snapshot.{Snapshot}
-use Rattle.core_snap.specs.Reads.{Answer, snap_read}
+use Rattle.core_snap.specs.Reads.{Answer, snap_read, get_of}
 
 abbrev letters : List ℕ → List (List ℕ)
 letters text = map (λ byte. byte ∷ []) text
@@ -50,3 +45,18 @@ gone_blocks = (refl, refl, refl)
 
 pub past_the_snapshot : read 7 ≡ Err (OutOfRange 7)
 past_the_snapshot = refl
+
+-- what the log itself gives
+abbrev got : Content → ℕ → Result (List ℕ) CoreFault
+got m index = Block (get_of m index)
+  where
+    Block : Result Answer CoreFault → Result (List ℕ) CoreFault
+    Block (Ok answer) = Ok answer.block
+    Block (Err fault) = Err fault
+
+pub own_blocks : (got seven 3 ≡ Ok (codes "d")) × (got later 5 ≡ Ok (codes "x")) × (got seven 7 ≡ Err (OutOfRange 7))
+unfolding depth_past full_roots_of roots_below end_block_of number joined any_under
+own_blocks = (refl, refl, refl)
+
+pub given_up : (got (clear_content 3 4 seven) 3 ≡ Err (Unavailable 3)) × (got (clear_content 3 4 seven) 8 ≡ Err (OutOfRange 7))
+given_up = (refl, refl)

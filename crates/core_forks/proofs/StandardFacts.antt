@@ -1,18 +1,18 @@
 -- Worked cases of refused changes, and of logs under a greater fork.
-use Rattle.std.proofs.Common.{◌≡◌, ℕ, Bool, true, false, List, [], ◌∷◌, map, codes, Option, Some, None, Result, Ok, Err, is_some, replicate, if◌then◌else◌, refl}
+use Rattle.std.proofs.Common.{◌≡◌, ℕ, List, [], ◌∷◌, map, codes, Some, None, replicate, refl}
 use Rattle.blake2b_hash.specs.Blake2b.{G, round, rounds, F, words, state_after, last_state, blake2b, hash_of}
-use Rattle.flat_tree.specs.Subtrees.{number, end_block_of, first_block_of}
-use Rattle.flat_tree.specs.Roots.{full_roots_of, roots_below, place_past, depth_past}
-use Rattle.flat_tree.specs.Covers.{cover_of, cover_in, largest_up_to}
+use Rattle.flat_tree.specs.Subtrees.{number, end_block_of}
+use Rattle.flat_tree.specs.Roots.{full_roots_of, roots_below}
+use Rattle.merkle_nodes.specs.declared.node.Node.{Node}
 use Rattle.merkle_nodes.specs.declared.node.Twig.{Twig}
-use Rattle.merkle_nodes.specs.Tree.{tree_of}
-use Rattle.merkle_nodes.specs.Joined.{joined, value_in}
-use Rattle.node_set.specs.Contents.{Content, start, no_twig, twig_at}
+use Rattle.merkle_nodes.specs.Joined.{joined}
+use Rattle.node_set.specs.Contents.{Content, start, no_twig, twig_at, roots, roots_at}
 use Rattle.node_set.specs.Closure.{any_under}
 use Rattle.node_set.specs.declared.fault.CoreFault.TheVariants.{OutOfRange, Limit, OldFork, NoNode}
 use Rattle.merkle_nodes.specs.declared.limit.What.TheVariants.{Fork}
 use Rattle.node_set.specs.Changes.{append_content, truncate_content, clear_content}
-use Rattle.core_forks.specs.Reorganise.{kept_under, kept_of, reorganise_content}
+use Rattle.core_forks.specs.Reorganise.{kept_under, kept_of}
+use Rattle.core_forks.specs.Truncations.{fresh_roots}
 use Rattle.core_forks.specs.Refusals.{first_missing, truncate_refusal, clear_refusal}
 
 -- logs whose blocks are one byte each, all held
@@ -67,3 +67,13 @@ eight_kept = refl
 pub changed_block : kept_of (letters (codes "abcdefgx")) 12 twelve ≡ 0
 unfolding joined any_under end_block_of full_roots_of roots_below kept_under G round rounds F words state_after last_state blake2b hash_of
 changed_block = refl
+
+-- of the roots of five of seven blocks the first was one before
+pub fresh_of_five : map (λ (node : Node). node.index) (fresh_roots (roots (letters (codes "abcdefg"))) (roots_at (letters (codes "abcdefg")).node 5)) ≡ 8 ∷ []
+unfolding joined any_under end_block_of number full_roots_of roots_below G round rounds F words state_after last_state blake2b hash_of
+fresh_of_five = refl
+
+-- the one root of four blocks was one before
+pub fresh_of_four : fresh_roots (roots (letters (codes "abcdefg"))) (roots_at (letters (codes "abcdefg")).node 4) ≡ []
+unfolding joined any_under end_block_of number full_roots_of roots_below G round rounds F words state_after last_state blake2b hash_of
+fresh_of_four = refl

@@ -1,2 +1,3 @@
 pub mod Reorganise
 pub mod Refusals
+pub mod Truncations

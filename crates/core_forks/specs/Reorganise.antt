@@ -1,5 +1,5 @@
 -- What a log under a greater fork leaves of a content: the longest front of its roots that is stored, and the blocks under it.
-use Rattle.std.specs.Prelude.{ℕ, List, [], ◌∷◌, if◌then◌else◌}
+use Rattle.std.specs.Prelude.{ℕ, List, ◌∷◌, if◌then◌else◌}
 use Rattle.flat_tree.specs.Subtrees.{Subtree, end_block_of}
 use Rattle.flat_tree.specs.Roots.{full_roots_of}
 use Rattle.merkle_nodes.specs.declared.node.Twig.{Twig}

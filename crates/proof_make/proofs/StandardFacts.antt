@@ -1,17 +1,12 @@
 -- Worked cases of answers.
-use Rattle.std.proofs.Common.{◌≡◌, ℕ, Bool, true, false, List, [], ◌∷◌, map, length, codes, Option, Some, None, is_some, replicate, if◌then◌else◌, refl}
-use Rattle.blake2b_hash.specs.Blake2b.{G, round, rounds, F, words, state_after, last_state, blake2b, hash_of}
-use Rattle.flat_tree.specs.Subtrees.{number, end_block_of, first_block_of}
+use Rattle.std.proofs.Common.{◌≡◌, ℕ, List, [], ◌∷◌, map, length, codes, Option, Some, None, replicate, refl}
+use Rattle.flat_tree.specs.Subtrees.{number, end_block_of}
 use Rattle.flat_tree.specs.Roots.{full_roots_of, roots_below, place_past, depth_past}
 use Rattle.flat_tree.specs.Covers.{cover_of, cover_in, largest_up_to}
-use Rattle.merkle_nodes.specs.declared.node.Twig.{Twig}
 use Rattle.merkle_nodes.specs.Tree.{tree_of}
 use Rattle.merkle_nodes.specs.Joined.{joined, value_in}
-use Rattle.node_set.specs.Contents.{Content, start, no_twig, twig_at}
+use Rattle.node_set.specs.Contents.{Content, start, no_twig}
 use Rattle.node_set.specs.Closure.{any_under}
-use Rattle.std.specs.List.{range_with_len}
-use Rattle.proof_form.specs.declared.request.Want.{Want}
-use Rattle.proof_form.specs.declared.request.Reach.{Reach}
 use Rattle.proof_form.specs.declared.request.Request.{Request}
 use Rattle.proof_form.specs.declared.proof.UpgradePart.{UpgradePart}
 use Rattle.proof_form.specs.Proofs.{Proof, Block}

@@ -1,7 +1,7 @@
 -- What a content can answer to a request: the honest proof, part by part, or nothing.
-use Rattle.std.specs.Prelude.{ℕ, Bool, true, false, ◌&&◌, ◌/◌, ◌^◌, ◌+◌, ◌-◌, ◌==◌, List, [], map, length, Option, Some, None, is_some, nat_le, nat_lt, nat_eq, slice_get, if◌then◌else◌}
+use Rattle.std.specs.Prelude.{ℕ, ◌&&◌, List, map, length, Option, Some, None, is_some, nat_le, nat_lt, nat_eq, slice_get, if◌then◌else◌}
 use Rattle.std.specs.List.{list_all}
-use Rattle.flat_tree.specs.Subtrees.{Subtree, first_block_of}
+use Rattle.flat_tree.specs.Subtrees.{Subtree}
 use Rattle.flat_tree.specs.Roots.{depth_over}
 use Rattle.flat_tree.specs.Covers.{cover_of}
 use Rattle.merkle_nodes.specs.declared.node.Twig.{Twig}

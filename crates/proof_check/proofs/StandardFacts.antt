@@ -1,5 +1,5 @@
 -- Worked cases of admissions, and of refusals of which two hold at once.
-use Rattle.std.proofs.Common.{◌≡◌, ℕ, Bool, true, false, List, [], ◌∷◌, map, length, codes, Option, Some, None, is_some, replicate, if◌then◌else◌, refl}
+use Rattle.std.proofs.Common.{◌≡◌, ℕ, Bool, true, false, List, [], ◌∷◌, map, codes, Some, None, is_some, replicate, if◌then◌else◌, refl}
 use Rattle.blake2b_hash.specs.Blake2b.{G, round, rounds, F, words, state_after, last_state, blake2b, hash_of}
 use Rattle.flat_tree.specs.Subtrees.{number, end_block_of, first_block_of}
 use Rattle.flat_tree.specs.Roots.{full_roots_of, roots_below, place_past, depth_past}
@@ -7,20 +7,18 @@ use Rattle.flat_tree.specs.Covers.{cover_of, cover_in, largest_up_to}
 use Rattle.merkle_nodes.specs.declared.node.Twig.{Twig}
 use Rattle.merkle_nodes.specs.Tree.{tree_of}
 use Rattle.merkle_nodes.specs.Joined.{joined, value_in}
-use Rattle.node_set.specs.Contents.{Content, start, no_twig, twig_at}
+use Rattle.node_set.specs.Contents.{Content, start, no_twig}
 use Rattle.node_set.specs.Closure.{any_under}
 use Rattle.merkle_nodes.specs.Fold.{fold_from}
 use Rattle.merkle_nodes.specs.Sound.{below}
 use Rattle.std.specs.List.{flat_map}
-use Rattle.commit_book.specs.declared.commit.Commit.TheVariants.{Fetch, Upgrade, UpgradeFetch, Reorg, ReorgFetch}
-use Rattle.merkle_nodes.specs.declared.limit.What.TheVariants.{Blocks, Bytes}
+use Rattle.commit_book.specs.declared.commit.Commit.TheVariants.{Fetch, Reorg}
+use Rattle.merkle_nodes.specs.declared.limit.What.TheVariants.{Blocks}
 use Rattle.proof_form.specs.declared.proof.UpgradePart.{UpgradePart}
-use Rattle.proof_form.specs.declared.proof.HashPart.{HashPart}
-use Rattle.proof_form.specs.Proofs.{Proof, Block}
-use Rattle.node_set.specs.declared.fault.Refusal.{Refusal}
+use Rattle.proof_form.specs.Proofs.{Proof}
 use Rattle.node_set.specs.declared.fault.Refusal.TheVariants.{Limit, OutOfRange, OldFork, NewFork, NotLonger, WrongStart, HashDiffers, Uncovered, BadSignature, SeekWrong}
 use Rattle.node_set.specs.Changes.{append_content, upgrade_content}
-use Rattle.node_set.specs.Offsets.{levels_to, left_bytes, need_of}
+use Rattle.node_set.specs.Offsets.{levels_to, left_bytes}
 use Rattle.core_forks.specs.Reorganise.{kept_under}
 use Rattle.proof_check.specs.Judge.{refusal_of, admitted, commit_of}
 

@@ -1,5 +1,5 @@
 -- Whether an offered proof is admitted: the first refusal that holds, in this order, or the content after it.
-use Rattle.std.specs.Prelude.{ℕ, Bool, true, false, ◌+◌, ◌&&◌, ◌||◌, not, List, length, Option, Some, None, is_some, is_none, nat_le, nat_lt, nat_eq, if◌then◌else◌}
+use Rattle.std.specs.Prelude.{ℕ, Bool, ◌+◌, ◌&&◌, not, List, length, Option, Some, None, is_none, nat_le, nat_lt, nat_eq, if◌then◌else◌}
 use Rattle.flat_tree.specs.declared.limits.TheConstants.{MAX_BLOCKS, MAX_CORE_BYTES}
 use Rattle.commit_book.specs.declared.commit.Commit.{Commit}
 use Rattle.commit_book.specs.declared.commit.Commit.TheVariants.{Fetch, Upgrade, UpgradeFetch, Reorg, ReorgFetch}
@@ -7,7 +7,6 @@ use Rattle.merkle_nodes.specs.declared.limit.What.TheVariants.{Blocks, Bytes}
 use Rattle.merkle_nodes.specs.Tree.{leaf_of}
 use Rattle.merkle_nodes.specs.Roots.{root_hash_of, signed_text}
 use Rattle.proof_form.specs.declared.proof.UpgradePart.{UpgradePart}
-use Rattle.proof_form.specs.declared.proof.HashPart.{HashPart}
 use Rattle.proof_form.specs.Proofs.{Proof, Block}
 use Rattle.node_set.specs.declared.fault.Refusal.{Refusal}
 use Rattle.node_set.specs.declared.fault.Refusal.TheVariants.{Limit, OldFork, NewFork, NotLonger, WrongStart, BadSignature, SeekWrong}
@@ -106,11 +105,12 @@ upgrade_commit p m u None = if nat_lt m.fork p.fork then Reorg p.fork u.length (
 upgrade_commit p m u (Some index) =
     if nat_lt m.fork p.fork then ReorgFetch p.fork u.length (kept_of m u.length (new_roots u)) index else UpgradeFetch u.length index
 
+-- the commit of an upgrade, if any, and of a block that comes in, if one does
+abbrev pub commit_by : Proof → Content → Option UpgradePart → Option ℕ → Option Commit
+commit_by p m None None = None
+commit_by p m None (Some index) = Some (Fetch index)
+commit_by p m (Some u) index = Some (upgrade_commit p m u index)
+
 -- the commit of an admitted proof, where something changes
 abbrev pub commit_of : Proof → Content → Option Commit
-commit_of p m = ByUpgrade p.upgrade (incoming p (with_upgrade p m))
-  where
-    ByUpgrade : Option UpgradePart → Option ℕ → Option Commit
-    ByUpgrade None None = None
-    ByUpgrade None (Some index) = Some (Fetch index)
-    ByUpgrade (Some u) index = Some (upgrade_commit p m u index)
+commit_of p m = commit_by p m p.upgrade (incoming p (with_upgrade p m))

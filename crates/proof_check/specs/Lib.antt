@@ -1,4 +1,10 @@
 pub mod Upgraded
 pub mod Parts
 pub mod Judge
+pub mod Early
+pub mod Growth
+pub mod Meets
+pub mod Reaching
+pub mod Settling
 pub mod Covering
+pub mod Admission

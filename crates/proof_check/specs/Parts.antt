@@ -1,5 +1,5 @@
 -- A part of a proof as a path: a node, the siblings above it, and how it meets the nodes that are stored.
-use Rattle.std.specs.Prelude.{ℕ, Bool, ◌+◌, ◌/◌, ◌^◌, ◌-◌, List, length, Option, Some, None, not, nat_le, nat_lt, if◌then◌else◌}
+use Rattle.std.specs.Prelude.{ℕ, ◌+◌, ◌/◌, ◌^◌, ◌-◌, List, length, Option, Some, None, not, nat_le, nat_lt, if◌then◌else◌}
 use Rattle.flat_tree.specs.Subtrees.{number, first_block_of, end_block_of}
 use Rattle.flat_tree.specs.Roots.{depth_over}
 use Rattle.merkle_nodes.specs.declared.node.Twig.{Twig}
@@ -9,7 +9,7 @@ use Rattle.proof_form.specs.declared.proof.HashPart.{HashPart}
 use Rattle.proof_form.specs.Proofs.{Block}
 use Rattle.node_set.specs.declared.fault.Refusal.{Refusal}
 use Rattle.node_set.specs.declared.fault.Refusal.TheVariants.{OutOfRange, HashDiffers, Uncovered}
-use Rattle.node_set.specs.Contents.{Content, Values}
+use Rattle.node_set.specs.Contents.{Content}
 use Rattle.node_set.specs.Paths.{depth_of, offset_of_node, folded_at}
 use Rattle.node_set.specs.Offsets.{levels_to}
 use Rattle.node_set.specs.Same.{is_same}

@@ -1,5 +1,5 @@
 -- The content with a proof's upgrade in: the head that its signature is over, before that is looked at.
-use Rattle.std.specs.Prelude.{ℕ, Bool, List, [], map, Option, Some, None, nat_lt, if◌then◌else◌}
+use Rattle.std.specs.Prelude.{ℕ, List, map, Option, Some, None, nat_lt, if◌then◌else◌}
 use Rattle.flat_tree.specs.Subtrees.{Subtree}
 use Rattle.flat_tree.specs.Roots.{full_roots_of}
 use Rattle.flat_tree.specs.Covers.{cover_of}
@@ -7,7 +7,7 @@ use Rattle.merkle_nodes.specs.declared.node.Twig.{Twig}
 use Rattle.merkle_nodes.specs.Joined.{joined, value_in}
 use Rattle.proof_form.specs.declared.proof.UpgradePart.{UpgradePart}
 use Rattle.proof_form.specs.Proofs.{Proof}
-use Rattle.node_set.specs.Contents.{Content, Values, twig_at}
+use Rattle.node_set.specs.Contents.{Content, twig_at}
 use Rattle.node_set.specs.Changes.{upgrade_content}
 use Rattle.core_forks.specs.Reorganise.{reorganise_content}
 

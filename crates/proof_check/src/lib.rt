@@ -1,2 +1,21 @@
-//! Whether a proof from a stranger is admitted.
+//! Whether a proof from a stranger is admitted, and what it changes: the first refusal that holds, or the change.
 #![tactic(auto)]
+
+mod block;
+mod fresh;
+mod heads;
+mod held;
+mod judging;
+mod laws;
+mod meet;
+mod path;
+mod prepared;
+mod reach;
+mod settle;
+#[cfg(test)]
+mod tests;
+mod upgrade;
+
+pub use judging::judge;
+pub use laws::{admitted_stays_whole, covering_proofs_are_admitted};
+pub use prepared::{Prepared, prepare};

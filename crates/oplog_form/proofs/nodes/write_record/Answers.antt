@@ -1,0 +1,5 @@
+use Rattle.compact_enc.proofs.Writing.{writes_then}
+use Rattle.oplog_form.proofs.nodes.write_record.Goals as goal
+
+pub returns : goal.returns
+returns c = writes_then _ _ _ _ _ _ _ c.in_ok-write_number.ensures c.write_root.ensures

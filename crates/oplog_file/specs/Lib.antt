@@ -1,0 +1,4 @@
+pub mod Frames
+pub mod Slots
+pub mod Counting
+pub mod Files

@@ -1,0 +1,16 @@
+pub mod StandardFacts
+pub mod KeptLemmas
+pub mod StartLemmas
+pub mod HistoryLemmas
+pub mod PutNodes
+pub mod ShownLemmas
+pub mod AdmitShows
+pub mod HonestProofs
+pub mod Truths
+pub mod PlaysLemmas
+pub mod BatchLemmas
+pub mod FitLemmas
+pub mod ActLemmas
+pub mod ExtendLemmas
+pub mod CutLemmas
+pub mod ClearLemmas

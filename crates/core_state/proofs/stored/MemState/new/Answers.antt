@@ -1,0 +1,13 @@
+use Rattle.std.proofs.Common.{refl}
+use Rattle.core_state.proofs.StartLemmas.{empty_kept}
+use Rattle.core_state.proofs.stored.MemState.new.Goals as goal
+
+pub invariant_of-result : goal.invariant_of-result
+invariant_of-result c = empty_kept _ (record {
+  fork = refl;
+  none = refl;
+  signature = refl;
+  held = c.none.ensures;
+  blocks = c.new-3.ensures.items;
+  roots = c.new.ensures;
+})

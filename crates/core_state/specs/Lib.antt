@@ -1,0 +1,11 @@
+pub mod Events
+pub mod States
+pub mod Refusals
+pub mod Next
+pub mod Calls
+pub mod Truths
+pub mod Plays
+pub mod InMemory
+pub mod Stores
+pub mod Batches
+pub mod Turns

@@ -1,0 +1,33 @@
+-- Why an append is refused, and what a core answers of a block's path.
+use Rattle.std.specs.Prelude.{ℕ, ◌+◌, List, [], ◌∷◌, length, Option, None, Result, Ok, Err, nat_le, nat_lt, if◌then◌else◌}
+use Rattle.flat_tree.specs.declared.limits.TheConstants.{MAX_BLOCKS, MAX_BLOCK_BYTES, MAX_CORE_BYTES, MAX_BATCH_BLOCKS, MAX_BATCH_BYTES}
+use Rattle.merkle_nodes.specs.declared.limit.What.TheVariants.{Block, Blocks, Bytes, Batch, BatchBytes}
+use Rattle.node_set.specs.declared.fault.CoreFault.{CoreFault}
+use Rattle.node_set.specs.declared.fault.CoreFault.TheVariants.{OutOfRange, Limit}
+use Rattle.node_set.specs.Contents.{Content, roots, bytes_under}
+use Rattle.node_set.specs.Offsets.{need_of}
+use Rattle.node_set.specs.Refuses.{or_else, refuse_if}
+
+-- the limit that a block of so many bytes passes first, behind a core of so many blocks and bytes, and in an append that
+-- has so many blocks and bytes before it
+abbrev pub limit_at : ℕ → ℕ → ℕ → ℕ → ℕ → Option CoreFault
+limit_at blocks bytes count more size =
+    or_else (refuse_if (nat_lt MAX_BLOCK_BYTES size) (Limit Block MAX_BLOCK_BYTES))
+    (or_else (refuse_if (nat_le MAX_BATCH_BLOCKS count) (Limit Batch MAX_BATCH_BLOCKS))
+    (or_else (refuse_if (nat_lt MAX_BATCH_BYTES (more + size)) (Limit BatchBytes MAX_BATCH_BYTES))
+    (or_else (refuse_if (nat_le MAX_BLOCKS (blocks + count)) (Limit Blocks MAX_BLOCKS))
+    (refuse_if (nat_lt MAX_CORE_BYTES (bytes + more + size)) (Limit Bytes MAX_CORE_BYTES)))))
+
+-- the limit that some blocks pass first, one after the other
+unfoldable pub limit_in : ℕ → ℕ → ℕ → ℕ → List (List ℕ) → Option CoreFault
+limit_in blocks bytes count more [] = None
+limit_in blocks bytes count more (block ∷ rest) =
+    or_else (limit_at blocks bytes count more (length block)) (limit_in blocks bytes (count + 1) (more + length block) rest)
+
+-- why an append of these blocks is refused
+abbrev pub append_refusal : Content → List (List ℕ) → Option CoreFault
+append_refusal m more = limit_in m.length (bytes_under (roots m)) 0 0 more
+
+-- the siblings that a block needs
+abbrev pub need_answer : Content → ℕ → Result ℕ CoreFault
+need_answer m index = if nat_lt index m.length then Ok (need_of m index) else Err (OutOfRange m.length)

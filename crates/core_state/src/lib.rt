@@ -1,0 +1,22 @@
+//! The state machine of a log: what a core answers to each event, for every kind of core by one trait, and the core in
+//! memory.
+#![tactic(auto)]
+
+mod acting;
+mod append;
+mod cut;
+mod event;
+mod log_core;
+mod mem_core;
+#[cfg(test)]
+mod play_tests;
+mod playing;
+mod stored;
+#[cfg(test)]
+mod tests;
+
+pub use acting::act;
+pub use event::{Event, Reply};
+pub use log_core::Core;
+pub use mem_core::MemCore;
+pub use playing::{Kept, Replies, Step, Steps, play, status};

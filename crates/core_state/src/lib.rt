@@ -2,6 +2,8 @@
 //! memory.
 #![tactic(auto)]
 
+#[cfg(test)]
+mod act_tests;
 mod acting;
 mod append;
 mod cut;

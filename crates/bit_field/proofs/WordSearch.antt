@@ -68,8 +68,8 @@ module _ (words : List ℕ) (from at shift turned rest : ℕ) (bit : Bool) (left
       subst (λ (p : ℕ). AllHave (not bit) from p (in_words words)) end
       (places_off (64 - shift) (omega (arith, left.small)) (λ k lt. ap (λ (n : ℕ). bit_at n k) none ∙ bit_at-zero k))
 
-  pub first_in_rest : 0 < rest → IsFirst bit from (64 * length words) (in_words words) (from + trailing_zeros w64 rest)
-  first_in_rest some =
+  pub first_in_rest : (end : ℕ) → at < end → 0 < rest → IsFirst bit from (64 * end) (in_words words) (from + trailing_zeros w64 rest)
+  first_in_rest end inside_end some =
       let lowest = bit_at-trailing_zeros w64 rest some (omega (arith, left.rests, left.fits, shr_le turned shift)) in
       let zeros = trailing_zeros w64 rest in
       let inside : shift + zeros < 64 = elim (cases_lt (shift + zeros) 64) [
@@ -78,7 +78,7 @@ module _ (words : List ℕ) (from at shift turned rest : ℕ) (bit : Bool) (left
       ] in
       record {
         start = omega arith;
-        below = omega (arith, left.starts, left.within);
+        below = omega (arith, left.starts, inside_end);
         here = place_on zeros inside lowest.1;
         before = places_off zeros (omega arith) lowest.2;
       }

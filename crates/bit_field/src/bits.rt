@@ -137,6 +137,15 @@ impl Bits {
         next_place(&self.words, from, self.count, true)
     }
 
+    /// The least of the places from..to that the set has. No place past them is looked at.
+    pub fn first_in(&self, from: u64, to: u64) -> Option<u64>
+        requires ordered { from ≤ to }
+        requires within { to ≤ length self.now }
+        ensures { Finds true from to (has self.now) result }
+    {
+        next_place(&self.words, from, to, true)
+    }
+
     /// How many places the set has.
     pub fn count(&self) -> u64
         ensures { result ≡ count_below (has self.now) (length self.now) }

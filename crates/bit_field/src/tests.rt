@@ -13,6 +13,8 @@ fn ranges(rt: HostRuntime) -> Result<(), Fail> {
     assert_eq!(rt; set.next_set(0), Some(3));
     assert_eq!(rt; set.next_unset(3), Some(64));
     assert_eq!(rt; set.next_set(64), Some(128));
+    assert_eq!(rt; set.first_in(64, 128), None);
+    assert_eq!(rt; set.first_in(64, 129), Some(128));
     assert_eq!(rt; set.next_unset(128), Some(190));
     set.set_range(190, 200);
     assert_eq!(rt; set.next_unset(128), None);

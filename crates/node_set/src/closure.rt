@@ -34,8 +34,8 @@ fn is_any_held(held: &Bits, first: u64, end: u64) -> bool
     ensures { (depth offset : ℕ) → first_block_of depth offset ≡ first
         → end_block_of depth offset ≡ end → result ≡ any_under (has held.now) depth offset }
 {
-    match held.next_set(first) {
-        Some(block) => block < end,
+    match held.first_in(first, end) {
+        Some(_) => true,
         None => false,
     }
 }

@@ -1,5 +1,5 @@
 //! The nodes that are stored, by their numbers.
-ghost use Rattle.std.specs.Prelude.{◌≡◌, ℕ, Bool, true, ◌+◌, ◌*◌, ◌<◌, ◌≤◌, [], None, length as size, slice_index_or, IfSome, IsErr, OnOk, OnErr};
+ghost use Rattle.std.specs.Prelude.{◌≡◌, ℕ, Bool, true, false, ◌+◌, ◌*◌, ◌<◌, ◌≤◌, [], None, length as size, slice_index_or, IfSome, IsOk, IsErr, OnOk, OnErr};
 ghost use Rattle.std.specs.Option.{option_map};
 ghost use Rattle.std.specs.List.{AllByRecursion};
 ghost use Rattle.flat_tree.specs.Subtrees.{number};
@@ -58,15 +58,29 @@ impl Nodes {
         Some(twig.numbered(index))
     }
 
-    /// Makes the place of a number. The nodes and the places that are there stay. It takes 24 KiB for the page, and up to
+    // Whether there is a place for a number.
+    fn has_place(&self, index: u64) -> bool
+        ensures { result ≡ has_place self.now index }
+    {
+        match self.pages.get(index as usize / PAGE_NODES) {
+            Some(page) => page.has_place(index as usize % PAGE_NODES),
+            None => false,
+        }
+    }
+
+    /// Makes the place of a number, where it isn't there. The nodes and the places that are there stay. It takes 24 KiB for the page, and up to
     /// 48 bytes of directory for each page before it. A number past those of `MAX_COUNT` blocks gets `Memory`, as if it
     /// lacked for a directory of more than 400 MB.
     pub fn reserve(&mut self, alloc: Global, index: u64) -> Result<(), Memory>
         ensures place { OnOk result (has_place self.new index ≡ true) }
-        ensures past { 2 * MAX_COUNT ≤ index → IsErr result }
+        ensures idle { has_place self.old index ≡ true → IsOk result }
+        ensures past { 2 * MAX_COUNT ≤ index → has_place self.old index ≡ false → IsErr result }
         ensures kept { (number : ℕ) → has_place self.old number ≡ true → has_place self.new number ≡ true }
         ensures same { values_of self.new ≡ values_of self.old }
     {
+        if self.has_place(index) {
+            return Ok(());
+        }
         if index >= 2 * MAX_COUNT {
             return Err(Memory);
         }
@@ -94,6 +108,7 @@ impl Nodes {
     pub fn reserve_all(&mut self, alloc: Global, nodes: &[Node]) -> Result<(), Memory>
         ensures places { OnOk result
             (AllByRecursion (λ (node : Node). has_place self.new node.index ≡ true) nodes.now) }
+        ensures idle { AllByRecursion (λ (node : Node). has_place self.old node.index ≡ true) nodes.now → IsOk result }
         ensures kept { (number : ℕ) → has_place self.old number ≡ true → has_place self.new number ≡ true }
         ensures same { values_of self.new ≡ values_of self.old }
     {

@@ -1,5 +1,5 @@
 //! A page of nodes, which stand in the order of their numbers.
-ghost use Rattle.std.specs.Prelude.{◌≡◌, ℕ, ◌+◌, ◌*◌, ◌≤◌, ◌<◌, [], None, Some, if◌then◌else◌, length, slice_index_or, slice_set, OnOk};
+ghost use Rattle.std.specs.Prelude.{◌≡◌, ℕ, ◌+◌, ◌*◌, ◌≤◌, ◌<◌, [], None, Some, if◌then◌else◌, length, nat_lt, slice_index_or, slice_set, OnOk};
 ghost use Rattle.flat_tree.specs.Subtrees.{number};
 ghost use Rattle.bit_field.specs.Places.{has};
 ghost use Rattle.node_set.specs.Closure.{in_closure};
@@ -51,6 +51,13 @@ impl Page {
             Some(twig) => *twig,
             None => None,
         }
+    }
+
+    /// Whether it has the place.
+    pub fn has_place(&self, place: usize) -> bool
+        ensures { result ≡ nat_lt place (length self.now) }
+    {
+        place < self.twigs.len()
     }
 
     /// Makes all its places.

@@ -1,5 +1,5 @@
 //! Bytes that own their memory.
-ghost use Rattle.std.specs.Prelude.{◌≡◌, ℕ, List, IfOk, replicate};
+ghost use Rattle.std.specs.Prelude.{◌≡◌, ℕ, List, [], IfOk, replicate};
 
 use crate::failed::Memory;
 use std::alloc::Global;
@@ -20,6 +20,15 @@ impl Model for Blob {
 impl Blob {
     ghost use Rattle.std.specs.Borrow.{sem};
     ghost use Rattle.outside_traits.specs.Lending.{LendsBytes};
+
+    /// No bytes. Takes no memory.
+    pub fn none(alloc: Global) -> Blob
+        ensures { result ≡ [] }
+    {
+        Blob {
+            items: Vec::new(alloc),
+        }
+    }
 
     /// A copy of `bytes`.
     pub fn from_slice(alloc: Global, bytes: &[u8]) -> Result<Blob, Memory>

@@ -16,7 +16,7 @@ left c = record {
 }
 
 pub returns-then-rest-ne0 : goal.returns-then-rest-ne0
-returns-then-rest-ne0 c = first_in_rest _ _ _ _ _ _ _ (left (goal.at.returns-then-rest-ne0 c).After-turned) (omega arith)
+returns-then-rest-ne0 c = first_in_rest _ _ _ _ _ _ _ (left (goal.at.returns-then-rest-ne0 c).After-turned) c.args.end (omega arith) (omega arith)
 
 pub returns : goal.returns
 returns c =

@@ -7,7 +7,7 @@ use Rattle.bit_field.proofs.search.next_in_words.Goals.{After-turned-word}
 left : (c : After-turned-word) → IsRest c.args.words.now (64 * c.loop-at.at) c.loop-at.at 0 c.turned-word.result c.turned-word.result c.args.bit
 left c = record {
   starts = omega arith;
-  within = c.loop-at-test.true;
+  within = omega (arith, c.loop-at-test.true, c.requires.within);
   small = omega arith;
   fits = c.turned-word.type_inv;
   turns = c.turned-word.ensures;
@@ -16,7 +16,7 @@ left c = record {
 
 pub returns-then-word-ne0 : goal.returns-then-word-ne0
 returns-then-word-ne0 c =
-    let first = first_in_rest _ _ _ _ _ _ _ (left (goal.at.returns-then-word-ne0 c).After-turned-word) (omega arith) in
+    let first = first_in_rest _ _ _ _ _ _ _ (left (goal.at.returns-then-word-ne0 c).After-turned-word) c.args.end c.loop-at-test.true (omega arith) in
     first_later _ (64 * c.args.first) (64 * c.loop-at.at) _ _ (omega arith) c.loop-at.invariant _ first
 
 pub loop-at-preserved : goal.loop-at-preserved

@@ -5,7 +5,7 @@ use Rattle.flat_tree.specs.Subtrees.{number, end_block_of, first_block_of}
 use Rattle.flat_tree.specs.Roots.{full_roots_of, roots_below, place_past, depth_past}
 use Rattle.flat_tree.specs.Covers.{cover_of, cover_in, largest_up_to}
 use Rattle.merkle_nodes.specs.declared.node.Twig.{Twig}
-use Rattle.merkle_nodes.specs.Tree.{tree_of}
+use Rattle.merkle_nodes.specs.Tree.{tree_of, leaf_of}
 use Rattle.merkle_nodes.specs.Joined.{joined, value_in}
 use Rattle.node_set.specs.Contents.{Content, start, no_twig}
 use Rattle.node_set.specs.Closure.{any_under}
@@ -13,12 +13,13 @@ use Rattle.merkle_nodes.specs.Fold.{fold_from}
 use Rattle.merkle_nodes.specs.Sound.{below}
 use Rattle.std.specs.List.{flat_map}
 use Rattle.commit_book.specs.declared.commit.Commit.TheVariants.{Fetch, Reorg}
-use Rattle.merkle_nodes.specs.declared.limit.What.TheVariants.{Blocks}
+use Rattle.merkle_nodes.specs.declared.limit.What.TheVariants.{Blocks, Bytes}
 use Rattle.proof_form.specs.declared.proof.UpgradePart.{UpgradePart}
 use Rattle.proof_form.specs.Proofs.{Proof}
 use Rattle.node_set.specs.declared.fault.Refusal.TheVariants.{Limit, OutOfRange, OldFork, NewFork, NotLonger, WrongStart, HashDiffers, Uncovered, BadSignature, SeekWrong}
 use Rattle.node_set.specs.Changes.{append_content, upgrade_content}
 use Rattle.node_set.specs.Offsets.{levels_to, left_bytes}
+use Rattle.node_set.specs.Paths.{folded_at}
 use Rattle.core_forks.specs.Reorganise.{kept_under}
 use Rattle.proof_check.specs.Judge.{refusal_of, admitted, commit_of}
 
@@ -122,6 +123,31 @@ lying_changes_nothing = (refl, refl, refl)
 pub limit_first : refusal_of all (offer_upgrade 3 1048577 []) (record empty_eight { fork = 1 }) ≡ Some (Limit Blocks 1048576)
 limit_first = refl
 
+-- too many blocks, and a block past them
+pub limit_before_range : refusal_of all (record (offer_upgrade 8 1048577 []) { block = Some (record { index = 1048577; bytes = codes "f"; trail = [] }) }) empty_eight
+    ≡ Some (Limit Blocks 1048576)
+limit_before_range = refl
+
+-- more bytes than a core has
+abbrev heavy : Twig
+heavy = record no_twig { size = 1099511627776 }
+
+-- too many bytes, and a block past the end
+pub bytes_before_range : refusal_of all (record (offer_upgrade 8 9 (heavy ∷ [])) { block = Some (record { index = 9; bytes = codes "f"; trail = [] }) }) empty_eight
+    ≡ Some (Limit Bytes 1099511627776)
+unfolding joined value_in any_under end_block_of first_block_of cover_of cover_in largest_up_to full_roots_of roots_below depth_past levels_to fold_from tree_of number
+bytes_before_range = refl
+
+-- the bytes of an upgrade from a wrong start aren't counted
+pub start_before_bytes : refusal_of all (offer_upgrade 3 9 (heavy ∷ [])) empty_eight ≡ Some (WrongStart 8)
+unfolding joined value_in any_under end_block_of first_block_of cover_of cover_in largest_up_to full_roots_of roots_below depth_past levels_to fold_from tree_of number
+start_before_bytes = refl
+
+-- a block past the end, under an upgrade from a wrong start
+pub range_before_start : refusal_of all (record (offer_upgrade 3 9 []) { block = Some (record { index = 9; bytes = codes "f"; trail = [] }) }) empty_eight ≡ Some (OutOfRange 9)
+unfolding joined value_in any_under end_block_of first_block_of cover_of cover_in largest_up_to full_roots_of roots_below depth_past levels_to fold_from tree_of number
+range_before_start = refl
+
 -- a block past the end, under an old fork
 pub range_before_fork : refusal_of all (offer_block 8 [] []) (record empty_eight { fork = 1 }) ≡ Some (OutOfRange 8)
 unfolding joined value_in any_under end_block_of first_block_of cover_of cover_in largest_up_to full_roots_of roots_below
@@ -158,10 +184,39 @@ pub differs_before_uncovered : refusal_of all (record (offer_block 5 (codes "f")
 unfolding joined value_in any_under end_block_of first_block_of cover_of cover_in largest_up_to full_roots_of roots_below depth_past levels_to fold_from tree_of number lib.Count.count_trailing_zeros
 differs_before_uncovered = refl
 
+-- an upgrade from a wrong start, and a block that differs
+pub start_before_differs : refusal_of all (record (offer_upgrade 3 9 (no_twig ∷ [])) { block = Some (record { index = 5; bytes = codes "g"; trail = siblings }) }) empty_eight
+    ≡ Some (WrongStart 8)
+unfolding joined value_in any_under end_block_of first_block_of cover_of cover_in largest_up_to full_roots_of roots_below depth_past levels_to fold_from tree_of number
+start_before_differs = refl
+
+-- what another block at 5 folds to
+abbrev folded_g : Twig
+folded_g = folded_at 5 (leaf_of (codes "g")) siblings 3
+
+-- a block that differs, under an upgrade whose signature is refused
+pub differs_before_signature : refusal_of nothing (record (offer_upgrade 8 9 (no_twig ∷ [])) { block = Some (record { index = 5; bytes = codes "g"; trail = siblings }) }) empty_eight
+    ≡ Some (HashDiffers 7 (tree_of eight 3 0) folded_g)
+unfolding joined value_in any_under end_block_of first_block_of cover_of cover_in largest_up_to full_roots_of roots_below depth_past place_past left_bytes levels_to fold_from tree_of number G round rounds F words state_after last_state blake2b hash_of lib.Count.count_trailing_zeros
+differs_before_signature = refl
+
+-- of a block and a node that differ, and of two that aren't covered, the block is looked at first
+pub block_before_node : (refusal_of all (record (offer_block 5 (codes "g") siblings) { hash = Some (record { node = record { index = 7; size = 1; hash = [] }; trail = [] }) }) empty_eight
+    ≡ Some (HashDiffers 7 (tree_of eight 3 0) folded_g))
+    × (refusal_of all (record (offer_block 5 (codes "f") []) { hash = Some (record { node = record { index = 0; size = 1; hash = [] }; trail = [] }) }) empty_eight ≡ Some (Uncovered 10))
+unfolding joined value_in any_under end_block_of first_block_of cover_of cover_in largest_up_to full_roots_of roots_below depth_past place_past left_bytes levels_to fold_from tree_of number G round rounds F words state_after last_state blake2b hash_of lib.Count.count_trailing_zeros
+block_before_node = (refl, refl)
+
 -- an uncovered block, under an upgrade whose signature is refused
 pub uncovered_before_signature : refusal_of nothing (record (offer_upgrade 8 9 (no_twig ∷ [])) { block = Some (record { index = 5; bytes = codes "f"; trail = [] }) }) empty_eight ≡ Some (Uncovered 10)
 unfolding joined value_in any_under end_block_of first_block_of cover_of cover_in largest_up_to full_roots_of roots_below depth_past levels_to fold_from tree_of number
 uncovered_before_signature = refl
+
+-- a signature that is refused, and a sought byte that another block has
+pub signature_before_seek : refusal_of nothing (record (offer_upgrade 8 9 (no_twig ∷ [])) { block = Some (record { index = 5; bytes = codes "f"; trail = siblings }); seek = Some 6 }) empty_eight
+    ≡ Some BadSignature
+unfolding joined value_in any_under end_block_of first_block_of cover_of cover_in largest_up_to full_roots_of roots_below depth_past place_past left_bytes levels_to fold_from tree_of number G round rounds F words state_after last_state blake2b hash_of lib.Count.count_trailing_zeros
+signature_before_seek = refl
 
 -- a sought byte that another block has
 pub seek_wrong : refusal_of all (record good { seek = Some 6 }) empty_eight ≡ Some (SeekWrong 5 1)

@@ -1,5 +1,5 @@
 -- Where a block's path meets the nodes that are stored.
-use Rattle.std.specs.Prelude.{◌≡◌, ℕ, Bool, true, false, ◌<◌, ◌≤◌, ◌/◌, ◌^◌, List, Option, Some, None, is_some, slice_get, if◌then◌else◌}
+use Rattle.std.specs.Prelude.{◌≡◌, ℕ, Bool, true, false, ◌<◌, ◌/◌, ◌^◌, List, Option, Some, None, is_some, slice_get, if◌then◌else◌}
 use Rattle.flat_tree.specs.Subtrees.{number, end_block_of}
 use Rattle.merkle_nodes.specs.Roots.{twig_of}
 use Rattle.merkle_nodes.specs.Joined.{Values, or_value}

@@ -1,41 +1,44 @@
 -- The calls of a core in memory.
-use Rattle.std.proofs.Common.{◌≡◌, ℕ, Bool, true, ◌<◌, ◌≤◌, List, [], ◌∷◌, length, Some, None, Result, Ok, Err, refl, sym, ap, subst, ◌∙◌, arith, inl, inr}
-use Rattle.std.specs.Prelude.{◌⊎◌, is_some, false}
-use Rattle.std.proofs.lemmas.Bool.{lt-ltb, le-ltb}
+use Rattle.std.proofs.Common.{◌≡◌, ℕ, Bool, true, ◌<◌, ◌≤◌, List, [], ◌∷◌, length, Option, Some, None, Result, Ok, Err, refl, sym, ap, subst, ◌∙◌, arith, inl, inr}
+use Rattle.std.specs.Prelude.{◌⊎◌, is_some, not, false, IsTrue, IfOk}
+use Rattle.std.proofs.lemmas.Bool.{lt-ltb, le-ltb, cases_Bool}
 use Rattle.outside_traits.specs.Faults.{Rose}
 use Rattle.commit_book.specs.declared.commit.Commit.TheVariants.{Append as AppendCommit, Truncate as TruncateCommit, Clear as ClearCommit}
 use Rattle.merkle_batch.proofs.NodeLists.{sizes_fit}
 use Rattle.node_set.specs.declared.fault.CoreFault.{CoreFault}
-use Rattle.node_set.specs.declared.fault.CoreFault.TheVariants.{Memory, OutOfRange}
+use Rattle.node_set.specs.declared.fault.CoreFault.TheVariants.{Memory, OutOfRange, NoReply}
 use Rattle.node_set.specs.declared.fault.Receipt.{Receipt}
 use Rattle.node_set.specs.Contents.{held, Content, roots, summary_of}
 use Rattle.node_set.specs.Changes.{AppendFits, clear_content}
 use Rattle.node_set.specs.Offsets.{need_of}
-use Rattle.node_set.specs.Views.{IsUsable, TellsFault}
+use Rattle.node_set.specs.Views.{IsUsable, TellsFault, AnswersBy}
 use Rattle.node_set.specs.Whole.{IsSound, KeepsLimits, IsWhole}
 use Rattle.node_set.proofs.SoundLemmas.{stored_value, signed_head}
-use Rattle.node_set.specs.Walks.{KeepsView}
-use Rattle.core_forks.specs.Refusals.{first_missing, truncate_refusal, clear_refusal}
+use Rattle.core_forks.specs.Refusals.{truncate_refusal, clear_refusal}
 use Rattle.core_forks.specs.Truncations.{HoldsNone, IsClearing}
 use Rattle.commit_book.specs.History.{HoldsSome}
 use Rattle.node_set.specs.declared.change.Change.{Change}
-use Rattle.node_set.specs.Closure.{in_closure}
-use Rattle.flat_tree.specs.Roots.{full_roots_of}
 use Rattle.node_set.proofs.KeepsWhole.{clear_whole}
 use Rattle.core_snap.specs.declared.snapshot.ReadAt.{ReadAt}
 use Rattle.core_snap.specs.Reads.{get_of}
 use Rattle.core_snap.specs.Causes.{ReadsAs}
-use Rattle.core_state.specs.Events.{Event, Reply}
-use Rattle.core_state.specs.Events.Event.{Append, Truncate, Clear, Page}
-use Rattle.core_state.specs.Events.Reply.{Done, Bits}
+use Rattle.proof_form.specs.declared.request.Request.{Request}
+use Rattle.proof_form.specs.declared.proof.Proof.{Proof as ProofInMemory}
+use Rattle.proof_form.specs.Proofs.{Proof, ProofFits, view as proof_view}
+use Rattle.proof_make.specs.Answers.{made_from}
+use Rattle.proof_make.specs.Offers.{is_plain}
+use Rattle.node_set.specs.Refuses.{refuse_if}
+use Rattle.core_state.specs.Events.{Event, Reply, proof_in}
+use Rattle.core_state.specs.Events.Event.{Append, Truncate, Clear, Make, Page}
+use Rattle.core_state.specs.Events.Reply.{Done, Made, Bits}
 use Rattle.bit_field.specs.Pages.{page_of}
 use Rattle.core_state.specs.States.{CoreState, receipt_of}
-use Rattle.core_state.specs.Refusals.{append_refusal, limit_in, need_answer}
+use Rattle.core_state.specs.Refusals.{append_refusal, limit_in, need_answer, or_no_reply, proof_answer}
 use Rattle.core_state.specs.Next.{Next, FollowsClear, answer_in}
 use Rattle.core_state.specs.Calls.{Acts, Fails, KeepsHistory, IsSafe, commit_in}
 use Rattle.core_state.specs.Batches.{Prepares}
 use Rattle.core_state.specs.InMemory.{Stored, Owned, content_of, mem_state, view_of}
-use Rattle.core_state.specs.Turns.{Turns, IsSignedAs, Extends, Cuts}
+use Rattle.core_state.specs.Turns.{Turns, Decides, IsSignedAs, Extends, Cuts}
 use Rattle.core_state.proofs.HistoryLemmas.{append_history, truncate_history, clear_history}
 use Rattle.core_state.proofs.CutLemmas.{truncate_passes}
 use Rattle.core_state.proofs.ClearLemmas.{clear_passes}
@@ -137,34 +140,70 @@ append_turns accepts m after (block ∷ more) receipt count none fits counted so
       whole = λ whole. signed_whole accepts _ after extends;
     }
 
--- ---- a truncation
+-- ---- a change that is refused, or made
 
+-- a view in memory tells no fault
 pub no_tell : (old new : Stored) (fault : CoreFault) → TellsFault (view_of old) (view_of new) fault → ⊥
 no_tell old new fault tells = no_fault tells.answered
 
-pub truncate_fails : (accepts : List ℕ → List ℕ → Bool) (old new : Stored) (to fork : ℕ) (fault : CoreFault) → KeepsView (view_of old) (view_of new)
-    → (truncate_refusal (content_of old) to fork ≡ Some fault) ⊎ TellsFault (view_of old) (view_of new) fault
-    → Turns accepts (content_of old) (Truncate to fork) (content_of new) (Err fault)
-truncate_fails accepts old new to fork fault keeps why = record {
-  next = elim why [ inl refused ↦ inl (refused, keeps.keeps.content) | inr told ↦ absurd (no_tell old new fault told) ];
-  history = ap summary_of keeps.keeps.content;
-  whole = λ whole. subst (λ (c : Content). IsWhole accepts c) (sym keeps.keeps.content) whole;
-}
+-- a decision over the view of a content in memory
+pub decides : (state seen old : Stored) → state ≡ old → (refusal : Content → Option CoreFault) → (Gives : Stored → Change → Type 0) → (answer : Result Change CoreFault)
+    → AnswersBy (view_of state) (view_of seen) (refusal (content_of state)) (Gives state) answer → Decides (refusal (content_of old)) (Gives old) answer
+decides state seen old is refusal Gives answer answers =
+    subst (λ (s : Stored). Decides (refusal (content_of s)) (Gives s) answer) is (by_answer answer answers)
+  where
+    by_answer : (given : Result Change CoreFault) → AnswersBy (view_of state) (view_of seen) (refusal (content_of state)) (Gives state) given
+        → Decides (refusal (content_of state)) (Gives state) given
+    by_answer (Ok change) gives = gives
+    by_answer (Err fault) why = elim why [ inl refused ↦ refused | inr tells ↦ absurd (no_tell state seen fault tells) ]
 
--- the roots of the length are there
-pub truncate_found : (old new : Stored) (to fork : ℕ) → KeepsView (view_of old) (view_of new) → truncate_refusal (content_of old) to fork ≡ None
-    → first_missing (in_closure (content_of new).length (held (content_of new))) (full_roots_of to) ≡ None
-truncate_found old new to fork keeps none =
-    ap (λ (m : Content). first_missing (in_closure m.length (held m)) (full_roots_of to)) keeps.keeps.content
-    ∙ (truncate_passes (content_of old) to fork none).stored
+-- ---- a proof that is asked for
 
-pub truncate_turns : (accepts : List ℕ → List ℕ → Bool) (old now : Stored) (after : Content) (to fork : ℕ) (receipt : Receipt)
-    → KeepsView (view_of old) (view_of now) → truncate_refusal (content_of old) to fork ≡ None
-    → receipt ≡ receipt_of after (Some (TruncateCommit to fork)) → Cuts accepts (content_of now) to fork after
-    → Turns accepts (content_of old) (Truncate to fork) after (Ok receipt)
-truncate_turns accepts old now after to fork receipt keeps none tells of_now =
-    let m = content_of old in
-    let cuts = subst (λ (c : Content). Cuts accepts c to fork after) keeps.keeps.content of_now in
+-- the answer to a request over such a view
+pub make_answer : (state seen : Stored) (request : Request) (answer : Result ProofInMemory CoreFault) → (is_plain request ≡ false → answer ≡ Err NoReply)
+    → (is_plain request ≡ true → AnswersBy (view_of state) (view_of seen) (refuse_if (not (is_some (made_from (content_of state) request))) NoReply)
+    (λ (proof : ProofInMemory). Some (proof_view proof) ≡ made_from (content_of state) request) answer)
+    → proof_in answer ≡ proof_answer (content_of state) request
+make_answer state seen request answer other made = elim (cases_Bool (is_plain request)) [
+  | inr apart ↦ rw apart (ap proof_in (other apart))
+  | inl plain ↦ rw plain (by_answer answer (made plain))
+]
+  where
+    found : Option Proof
+    found = made_from (content_of state) request
+
+    none_is : (proof : Option Proof) (fault : CoreFault) → refuse_if (not (is_some proof)) NoReply ≡ Some fault → Err fault ≡ or_no_reply proof
+    none_is None fault is = let same : NoReply ≡ fault = cc in ap Err (sym same)
+    none_is (Some proof) fault is = let clash : None ≡ Some fault = is in cc
+
+    by_answer : (given : Result ProofInMemory CoreFault)
+        → AnswersBy (view_of state) (view_of seen) (refuse_if (not (is_some (made_from (content_of state) request))) NoReply)
+        (λ (proof : ProofInMemory). Some (proof_view proof) ≡ made_from (content_of state) request) given
+        → proof_in given ≡ or_no_reply (made_from (content_of state) request)
+    by_answer (Ok proof) gives = ap or_no_reply gives.1
+    by_answer (Err fault) why = elim why [
+      | inl refused ↦ none_is (made_from (content_of state) request) fault refused
+      | inr tells ↦ absurd (no_tell state seen fault tells)
+    ]
+
+-- a proof that is made is within its ranges
+made_safe : (m : Content) (request : Request) (answer : Result ProofInMemory CoreFault) → IfOk answer (λ (proof : ProofInMemory). ProofFits (proof_view proof))
+    → IsSafe m (Make request) (Made (proof_in answer))
+made_safe m request (Ok proof) fits = fits
+made_safe m request (Err fault) fits = tt
+
+-- and no commit
+made_rests : (m : Content) (answer : Result ProofInMemory CoreFault) → KeepsHistory m m (commit_in (Made (proof_in answer)))
+made_rests m (Ok proof) = refl
+made_rests m (Err fault) = refl
+
+pub truncate_fails : (accepts : List ℕ → List ℕ → Bool) (m : Content) (to fork : ℕ) (fault : CoreFault) → truncate_refusal m to fork ≡ Some fault
+    → Turns accepts m (Truncate to fork) m (Err fault)
+truncate_fails accepts m to fork fault refused = record { next = inl (refused, refl); history = refl; whole = λ whole. whole }
+
+pub truncate_turns : (accepts : List ℕ → List ℕ → Bool) (m after : Content) (to fork : ℕ) (receipt : Receipt) → truncate_refusal m to fork ≡ None
+    → receipt ≡ receipt_of after (Some (TruncateCommit to fork)) → Cuts accepts m to fork after → Turns accepts m (Truncate to fork) after (Ok receipt)
+truncate_turns accepts m after to fork receipt none tells cuts =
     let passes = truncate_passes m to fork none in
     let legal = truncate_history m to fork after.signature passes.short passes.greater passes.fits in
     let legal_after = subst (λ (c : Content). KeepsHistory m c (Some (TruncateCommit to fork))) (sym cuts.content) legal in
@@ -174,43 +213,31 @@ truncate_turns accepts old now after to fork receipt keeps none tells of_now =
       whole = λ whole. signed_whole accepts _ after cuts;
     }
 
--- ---- a clearing
-
-pub clear_fails : (accepts : List ℕ → List ℕ → Bool) (old new : Stored) (from to : ℕ) (fault : CoreFault) → KeepsView (view_of old) (view_of new)
-    → (clear_refusal (content_of old) from to ≡ Some fault) ⊎ TellsFault (view_of old) (view_of new) fault
-    → Turns accepts (content_of old) (Clear from to) (content_of new) (Err fault)
-clear_fails accepts old new from to fault keeps why = record {
-  next = elim why [ inl refused ↦ inl (refused, keeps.keeps.content) | inr told ↦ absurd (no_tell old new fault told) ];
-  history = ap summary_of keeps.keeps.content;
-  whole = λ whole. subst (λ (c : Content). IsWhole accepts c) (sym keeps.keeps.content) whole;
-}
+pub clear_fails : (accepts : List ℕ → List ℕ → Bool) (m : Content) (from to : ℕ) (fault : CoreFault) → clear_refusal m from to ≡ Some fault
+    → Turns accepts m (Clear from to) m (Err fault)
+clear_fails accepts m from to fault refused = record { next = inl (refused, refl); history = refl; whole = λ whole. whole }
 
 -- where none is held there is no commit
-pub clear_none : (accepts : List ℕ → List ℕ → Bool) (old new : Stored) (from to : ℕ) (change : Change) (receipt : Receipt)
-    → KeepsView (view_of old) (view_of new) → clear_refusal (content_of old) from to ≡ None → IsClearing (content_of old) from to change
-    → change.commit ≡ None → receipt ≡ receipt_of (content_of new) None → Turns accepts (content_of old) (Clear from to) (content_of new) (Ok receipt)
-clear_none accepts old new from to change receipt keeps refusal clears none tells =
-    let same = keeps.keeps.content in
-    let holds_none : HoldsNone from to (content_of old) = elim clears.commit [
+pub clear_none : (accepts : List ℕ → List ℕ → Bool) (m : Content) (from to : ℕ) (change : Change) (receipt : Receipt)
+    → clear_refusal m from to ≡ None → IsClearing m from to change → change.commit ≡ None → receipt ≡ receipt_of m None
+    → Turns accepts m (Clear from to) m (Ok receipt)
+clear_none accepts m from to change receipt refusal clears none tells =
+    let holds_none : HoldsNone from to m = elim clears.commit [
       | inl some ↦ let clash : None ≡ Some (ClearCommit from to) = sym none ∙ some.1 in cc
       | inr all ↦ all.0
     ] in
-    let rests : FollowsClear (content_of old) from to (content_of new) (receipt_of (content_of new) None) =
-    record { none = holds_none; rests = record { content = same; tells = ap (λ (m : Content). receipt_of m None) same } } in
+    let rests : FollowsClear m from to m (receipt_of m None) = record { none = holds_none; rests = record { content = refl; tells = refl } } in
     record {
-      next = inl (refusal, subst (FollowsClear (content_of old) from to (content_of new)) (sym tells) rests);
-      history = subst (λ (r : Receipt). KeepsHistory (content_of old) (content_of new) r.commit) (sym tells) (ap summary_of same);
-      whole = λ whole. subst (λ (c : Content). IsWhole accepts c) (sym same) whole;
+      next = inl (refusal, subst (FollowsClear m from to m) (sym tells) rests);
+      history = subst (λ (r : Receipt). KeepsHistory m m r.commit) (sym tells) refl;
+      whole = λ whole. whole;
     }
 
 -- where one is, the blocks are given up
-pub clear_turns : (accepts : List ℕ → List ℕ → Bool) (old now : Stored) (after : Content) (from to : ℕ) (change : Change) (receipt : Receipt)
-    → KeepsView (view_of old) (view_of now) → clear_refusal (content_of old) from to ≡ None → IsClearing (content_of old) from to change
-    → is_some change.commit ≡ true → receipt ≡ receipt_of after (Some (ClearCommit from to)) → after ≡ clear_content from to (content_of now)
-    → Turns accepts (content_of old) (Clear from to) after (Ok receipt)
-clear_turns accepts old now after from to change receipt keeps refusal clears some tells is =
-    let m = content_of old in
-    let content : after ≡ clear_content from to m = is ∙ ap (clear_content from to) keeps.keeps.content in
+pub clear_turns : (accepts : List ℕ → List ℕ → Bool) (m after : Content) (from to : ℕ) (change : Change) (receipt : Receipt)
+    → clear_refusal m from to ≡ None → IsClearing m from to change → is_some change.commit ≡ true
+    → receipt ≡ receipt_of after (Some (ClearCommit from to)) → after ≡ clear_content from to m → Turns accepts m (Clear from to) after (Ok receipt)
+clear_turns accepts m after from to change receipt refusal clears some tells content =
     let holds_some : HoldsSome from to (summary_of m) = elim clears.commit [
       | inl there ↦ there.0
       | inr none ↦ let clash : true ≡ false = sym some ∙ ap is_some none.1 in cc
@@ -249,3 +276,18 @@ module _ {A : Type 0} (accepts_of : A → List ℕ → List ℕ → Bool) (insid
       subst (λ (owned : Owned A). Acts true (state_of owned) (Page number) (state_of owned) (Bits (Ok place))) is
       (mem_acts (accepts_of inside.auth) (content_of inside.stored) (content_of inside.stored) (Page number) (Bits (Ok place))
       (inl (refl, ap Ok page)) refl tt whole)
+
+  -- a proof was made
+  pub make_acts : (state seen : Stored) (request : Request) (answer : Result ProofInMemory CoreFault) → state ≡ inside.stored
+      → (is_plain request ≡ false → answer ≡ Err NoReply)
+      → (IsTrue true → is_plain request ≡ true
+      → AnswersBy (view_of state) (view_of seen) (refuse_if (not (is_some (made_from (content_of state) request))) NoReply)
+      (λ (proof : ProofInMemory). Some (proof_view proof) ≡ made_from (content_of state) request) answer)
+      → IfOk answer (λ (proof : ProofInMemory). ProofFits (proof_view proof)) → IsWhole (accepts_of inside.auth) (content_of inside.stored)
+      → Acts true (state_of core) (Make request) (state_of core) (Made (proof_in answer))
+  make_acts state seen request answer seen_is other made fits whole =
+      let m = content_of inside.stored in
+      let answers : proof_in answer ≡ proof_answer m request =
+      subst (λ (s : Stored). proof_in answer ≡ proof_answer (content_of s) request) seen_is (make_answer state seen request answer other (made refl)) in
+      subst (λ (owned : Owned A). Acts true (state_of owned) (Make request) (state_of owned) (Made (proof_in answer))) is
+      (mem_acts (accepts_of inside.auth) m m (Make request) (Made (proof_in answer)) (inl (refl, answers)) (made_rests m answer) (made_safe m request answer fits) whole)

@@ -12,6 +12,7 @@ use Rattle.node_set.specs.Whole.{IsSound, KeepsLimits, IsWhole}
 use Rattle.node_set.specs.Changes.{content_on, clear_content, blocks_without}
 use Rattle.node_set.proofs.KeepsWhole.{clear_whole, clear_roots}
 use Rattle.core_forks.specs.Refusals.{clear_refusal}
+use Rattle.merkle_nodes.specs.Roots.{root_hash_of}
 use Rattle.core_state.specs.InMemory.{Stored, content_of, IsKept}
 use Rattle.core_state.proofs.FitLemmas.{not_refused}
 use Rattle.core_state.proofs.ShownLemmas.{FitParts, KeepsPart, part_shows, blocks_given_up}
@@ -28,6 +29,7 @@ clear_passes m from to none =
 pub record IsClearedOf (s now : Stored) (from to : ℕ) : Type 0 where
   pub head : now.parts.head ≡ s.parts.head
   pub roots_stay : now.roots ≡ s.roots
+  pub root_stays : now.root ≡ s.root
   pub places : length now.parts.held ≡ length s.parts.held
   pub held : SetsRange false from to (has s.parts.held) (has now.parts.held)
   pub values : values_of now.parts.nodes ≡ closed_on s.parts.head.length (has now.parts.held) (values_of s.parts.nodes)
@@ -95,6 +97,7 @@ module _ (s old now : Stored) (kept : IsKept s) (is : s ≡ old) (from to : ℕ)
     places = omega (arith, same_length, kept.places, cleared.places);
     spare = left_fit.spare;
     blocks = left_fit.blocks;
+    root_is = cleared.root_stays ∙ kept.root_is ∙ ap root_hash_of (sym cleared.roots_stay);
     root_nodes = cleared.roots_stay ∙ kept.root_nodes ∙ sym (clear_roots m from to) ∙ ap roots (sym left_shows);
     sound = subst IsSound (sym left_shows) whole_left.sound;
     limits = subst KeepsLimits (sym left_shows) whole_left.limits;

@@ -76,6 +76,7 @@ pub record IsCutTo (s old now : Stored) (to last : ℕ) : Type 0 where
   pub end : now.parts.head.length ≡ to
   pub signature : length now.parts.head.signature ≡ 64
   pub roots_are : now.roots ≡ roots_at (content_of old).node to
+  pub root_is : now.root ≡ root_hash_of now.roots
   pub blocks : now.parts.blocks ≡ take to s.parts.blocks
   pub last_is : last ≡ length s.parts.held
   pub places : length now.parts.held ≡ length s.parts.held
@@ -159,6 +160,7 @@ module _ (s old now : Stored) (kept : IsKept s) (is : s ≡ old) (to last : ℕ)
     spare = cut_fit.spare;
     blocks = cut_fit.blocks;
     root_nodes = roots_now;
+    root_is = cut.root_is;
     sound = subst IsSound (sym cut_shows) whole_cut.sound;
     limits = subst KeepsLimits (sym cut_shows) whole_cut.limits;
   }

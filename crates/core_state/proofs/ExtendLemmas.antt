@@ -34,6 +34,7 @@ use Rattle.core_state.proofs.ShownLemmas.{TakesBatch, append_shows}
 pub record HasGrown (s now : Stored) : Type 0 where
   pub head : now.parts.head ≡ s.parts.head
   pub roots : now.roots ≡ s.roots
+  pub root : now.root ≡ s.root
   pub more : length s.parts.held ≤ length now.parts.held
   pub held : (index : ℕ) → has now.parts.held index ≡ has s.parts.held index
   pub values : values_of now.parts.nodes ≡ values_of s.parts.nodes
@@ -67,6 +68,7 @@ module _ (s now : Stored) (grows : HasGrown s now) where
         spare = λ index there. omega (arith, kept.spare index (sym (grows.held index) ∙ there), same);
         blocks = ap length grows.blocks ∙ kept.blocks ∙ sym same;
         root_nodes = grows.roots ∙ kept.root_nodes ∙ ap roots (sym grown_shows);
+        root_is = grows.root ∙ kept.root_is ∙ ap root_hash_of (sym grows.roots);
         sound = subst IsSound (sym grown_shows) kept.sound;
         limits = subst KeepsLimits (sym grown_shows) kept.limits;
       }
@@ -108,6 +110,7 @@ pub record TakesIn (s now : Stored) (more : List (List ℕ)) (batch : BatchView)
   pub end : now.parts.head.length ≡ batch.base + batch.blocks
   pub signature : length now.parts.head.signature ≡ 64
   pub roots : now.roots ≡ batch.roots
+  pub root : now.root ≡ root_hash_of batch.roots
   pub places : batch.base + batch.blocks ≤ length now.parts.held
   pub was_held : (index : ℕ) → set index ≡ has s.parts.held index
   pub held : SetsRange true s.parts.head.length now.parts.head.length set (has now.parts.held)
@@ -176,19 +179,20 @@ module _ (s old now : Stored) (kept : IsKept s) (is : s ≡ old) (more : List (L
     ];
     blocks = ap length takes.blocks ∙ length-append s.parts.blocks more ∙ omega (arith, kept.blocks, end_is);
     root_nodes = takes.roots ∙ roots_now;
+    root_is = takes.root ∙ ap root_hash_of (sym takes.roots);
     sound = subst IsSound (sym shows) whole_after.sound;
     limits = subst KeepsLimits (sym shows) whole_after.limits;
   }
 
-  pub taken_extends : (accepts : List ℕ → List ℕ → Bool) (nodes : List Node) → nodes ≡ batch.roots
-      → IsTrue (accepts (signed_text (root_hash_of nodes) now.parts.head.length now.parts.head.fork) now.parts.head.signature)
+  pub taken_extends : (accepts : List ℕ → List ℕ → Bool) (root : List ℕ) → root ≡ root_hash_of batch.roots
+      → IsTrue (accepts (signed_text root now.parts.head.length now.parts.head.fork) now.parts.head.signature)
       → Extends accepts (content_of old) more (content_of now)
-  taken_extends accepts nodes nodes_is accepted = record {
+  taken_extends accepts root root_is accepted = record {
     content = shows ∙ ap (λ (t : Stored). append_content more now.parts.head.signature (content_of t)) is;
     signed = record {
       signature = takes.signature;
-      accepted = subst (λ (nodes : List Node).
-          IsTrue (accepts (signed_text (root_hash_of nodes) now.parts.head.length now.parts.head.fork) now.parts.head.signature)) (nodes_is ∙ roots_now) accepted;
+      accepted = subst (λ (hash : List ℕ).
+          IsTrue (accepts (signed_text hash now.parts.head.length now.parts.head.fork) now.parts.head.signature)) (root_is ∙ ap root_hash_of roots_now) accepted;
     };
     sound = taken_kept.sound;
     limits = taken_kept.limits;

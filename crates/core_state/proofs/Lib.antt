@@ -14,3 +14,6 @@ pub mod ActLemmas
 pub mod ExtendLemmas
 pub mod CutLemmas
 pub mod ClearLemmas
+pub mod AdmitLemmas
+pub mod AdmitTurns
+pub mod HonestTaken

@@ -1,5 +1,5 @@
 -- What a list of steps did so far, and one step more at its end.
-use Rattle.std.proofs.Common.{◌≡◌, ℕ, Bool, ◌+◌, ◌<◌, List, [], ◌∷◌, ◌++◌, length, get_or, take, map, Ok, Err, refl, sym, ap, subst, ◌∙◌, append_assoc}
+use Rattle.std.proofs.Common.{◌≡◌, ℕ, Bool, ◌+◌, ◌<◌, List, [], ◌∷◌, ◌++◌, length, get_or, take, map, Option, Ok, Err, refl, sym, ap, subst, ◌∙◌, append_assoc}
 use Rattle.std.proofs.lemmas.List.{take-map, map_more, length-map}
 use Rattle.core_state.specs.declared.playing.Kept.{Kept}
 use Rattle.core_state.specs.declared.playing.Step.{Step}
@@ -8,7 +8,7 @@ use Rattle.core_state.specs.States.{CoreState}
 use Rattle.core_state.specs.Plays.{event_of_step, PlaysOne, Stays, Plays, AddsReplies}
 
 -- one step more
-plays-push : (takes : Bool) (old middle new : CoreState) (events : List Event) (event : Event) (kept : List Kept) (one : Kept) → Plays takes old events middle kept
+plays-push : (takes : Bool) (old middle new : CoreState) (events : List (Option Event)) (event : Option Event) (kept : List Kept) (one : Kept) → Plays takes old events middle kept
     → PlaysOne takes middle event new one → Plays takes old (events ++ event ∷ []) new (kept ++ one ∷ [])
 plays-push takes old middle new [] event [] one so_far next = (new, subst (λ (state : CoreState). PlaysOne takes state event new one) so_far next, refl)
 plays-push takes old middle new (first ∷ events) event (reply ∷ kept) one so_far next =
@@ -32,7 +32,7 @@ played_more takes old middle new steps count step before replies after one less 
     record {
       kept = so_far.kept ++ one ∷ [];
       added = added ∙ ap (λ (xs : List Kept). xs ++ one ∷ []) so_far.added ∙ append_assoc before so_far.kept (one ∷ []);
-      plays = subst (λ (events : List Event). Plays takes old events new (so_far.kept ++ one ∷ [])) (sym one_more)
+      plays = subst (λ (events : List (Option Event)). Plays takes old events new (so_far.kept ++ one ∷ [])) (sym one_more)
           (plays-push takes old middle new (map event_of_step (take count steps)) (event_of_step step) so_far.kept one so_far.plays next);
     }
 
@@ -40,7 +40,7 @@ played_more takes old middle new steps count step before replies after one less 
 first_events : (takes : Bool) (old now : CoreState) (steps : List Step) (count : ℕ) (kept : List Kept) → Plays takes old (map event_of_step (take count steps)) now kept
     → Plays takes old (take count (map event_of_step steps)) now kept
 first_events takes old now steps count kept plays =
-    subst (λ (events : List Event). Plays takes old events now kept) (sym (take-map event_of_step count steps)) plays
+    subst (λ (events : List (Option Event)). Plays takes old events now kept) (sym (take-map event_of_step count steps)) plays
 
 -- all were
 pub played_all : {E : Type 0} (takes : Bool) (old now : CoreState) (steps : List Step) (before replies : List Kept)

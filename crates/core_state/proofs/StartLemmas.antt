@@ -6,6 +6,7 @@ use Rattle.node_set.specs.Whole.{IsWhole}
 use Rattle.node_set.proofs.StoredTest.{past_closure}
 use Rattle.node_set.proofs.TableLemmas.{has_within}
 use Rattle.node_set.proofs.EmptyTable.{empty_sound, empty_limits}
+use Rattle.merkle_nodes.specs.Roots.{root_hash_of}
 use Rattle.core_state.specs.InMemory.{Stored, content_of, IsKept}
 
 -- nothing is there, under an unsigned head
@@ -16,6 +17,7 @@ pub record IsEmpty (s : Stored) : Type 0 where
   pub held : s.parts.held ≡ []
   pub blocks : s.parts.blocks ≡ []
   pub roots : s.roots ≡ []
+  pub root : s.root ≡ root_hash_of s.roots
 
 pub empty_kept : (s : Stored) → IsEmpty s → IsKept s
 unfolding full_roots_of roots_below
@@ -28,6 +30,7 @@ empty_kept s empty =
       spare = λ index there. absurd (omega (arith, has_within s.parts.held index there, no_places));
       blocks = no_blocks ∙ sym empty.none;
       root_nodes = empty.roots ∙ sym no_roots;
+      root_is = empty.root;
       sound = empty_sound s.parts empty.none no_places;
       limits = empty_limits s.parts empty.none no_places (omega (arith, empty.fork)) empty.signature;
     }

@@ -7,20 +7,24 @@ use Rattle.bit_field.specs.declared.page.TheConstants.{PAGE_BYTES}
 use Rattle.commit_book.specs.declared.commit.Commit.{Commit}
 use Rattle.merkle_nodes.specs.declared.limit.What.TheVariants.{Oplog}
 use Rattle.merkle_nodes.specs.Fold.{Proves}
+use Rattle.proof_form.specs.Requests.{RequestFits}
+use Rattle.proof_form.specs.Proofs.{ProofFits}
 use Rattle.node_set.specs.declared.fault.CoreFault.{CoreFault}
 use Rattle.node_set.specs.declared.fault.CoreFault.TheVariants.{Memory, Broken, StoreFault, BadStore, Damaged, Limit}
 use Rattle.node_set.specs.Contents.{Content, roots}
 use Rattle.node_set.specs.Whole.{IsWhole}
 pub use Rattle.node_set.specs.Legal.{core_limits, KeepsHistory}
+use Rattle.proof_check.specs.Admission.{IsPlain}
 use Rattle.core_state.specs.Events.{Event, Reply}
-use Rattle.core_state.specs.Events.Event.{Append, Truncate, Clear, Get, Need, Page}
-use Rattle.core_state.specs.Events.Reply.{Done, Read, Number, Bits}
+use Rattle.core_state.specs.Events.Event.{Append, Truncate, Clear, Admit, Make, Get, Need, Page}
+use Rattle.core_state.specs.Events.Reply.{Done, Made, Read, Number, Bits}
 use Rattle.core_state.specs.States.{CoreState}
 use Rattle.core_state.specs.Next.{Next}
 
 -- the fault that a reply has
 abbrev pub fault_in : Reply → Option CoreFault
 fault_in (Done (Err fault)) = Some fault
+fault_in (Made (Err fault)) = Some fault
 fault_in (Read (Err fault)) = Some fault
 fault_in (Number (Err fault)) = Some fault
 fault_in (Bits (Err fault)) = Some fault
@@ -51,6 +55,7 @@ abbrev pub IsOwnFault : Bool → CoreState → Event → CoreState → CoreFault
 IsOwnFault takes old (Append more) new fault = IsChangeFault takes old new fault
 IsOwnFault takes old (Truncate to fork) new fault = IsChangeFault takes old new fault
 IsOwnFault takes old (Clear from to) new fault = IsChangeFault takes old new fault
+IsOwnFault takes old (Admit p) new fault = IsChangeFault takes old new fault
 IsOwnFault takes old event new fault = IsReadFault old new fault
 
 -- such a fault was answered, and the content is as it was
@@ -60,9 +65,10 @@ pub record Fails (takes : Bool) (old : CoreState) (event : Event) (new : CoreSta
   pub own : IsOwnFault takes old event new fault
   pub content : new.content ≡ old.content
 
--- a block that is read is proved under the roots, and no more siblings are needed than a path has
+-- a block that is read is proved under the roots, a proof is within its ranges, and no more siblings are needed than a path has
 abbrev pub IsSafe : Content → Event → Reply → Type 0
 IsSafe m (Get index) (Read (Ok answer)) = Proves m.length (roots m) index answer.block answer.trail
+IsSafe m (Make request) (Made (Ok proof)) = ProofFits proof
 IsSafe m (Need index) (Number (Ok number)) = number ≤ MAX_SIBLINGS
 IsSafe m event reply = Unit {0}
 
@@ -88,8 +94,11 @@ pub record Acts (takes : Bool) (old : CoreState) (event : Event) (new : CoreStat
   pub safe : IsSafe old.content event reply
   pub broken : (count : ℕ) → old.broken ≡ Some count → (new.broken ≡ Some count) × (new.content ≡ old.content) × (commit_in reply ≡ None)
 
--- the room that the place of an event needs: for the largest block, or for a page
-abbrev pub HasRoom : Event → ℕ → Type 0
-HasRoom (Get index) room = MAX_BLOCK_BYTES ≤ room
-HasRoom (Page number) room = PAGE_BYTES ≤ room
-HasRoom event room = Unit {0}
+-- what an event needs, with a place of so many bytes: room for the largest block, or for a page; a request within its ranges; and
+-- so far a proof without a node or a sought byte
+abbrev pub Needs : Event → ℕ → Type 0
+Needs (Admit p) room = IsPlain p
+Needs (Make request) room = RequestFits request × (MAX_BLOCK_BYTES ≤ room)
+Needs (Get index) room = MAX_BLOCK_BYTES ≤ room
+Needs (Page number) room = PAGE_BYTES ≤ room
+Needs event room = Unit {0}

@@ -1,17 +1,22 @@
 -- A core in memory: the parts that show its content, what they keep, and what is seen of it.
-use Rattle.std.specs.Prelude.{◌≡◌, ℕ, Bool, true, false, ◌<◌, ◌≤◌, List, length, None}
+use Rattle.std.specs.Prelude.{◌≡◌, ℕ, Bool, true, false, ◌<◌, ◌≤◌, List, length, Option, None}
 use Rattle.bit_field.specs.Places.{has}
 use Rattle.merkle_nodes.specs.declared.node.Node.{Node}
+use Rattle.merkle_nodes.specs.Roots.{root_hash_of}
 use Rattle.node_set.specs.Contents.{Content, roots}
 use Rattle.node_set.specs.Whole.{IsSound, KeepsLimits}
 use Rattle.node_set.specs.Tables.{Parts, shown}
 use Rattle.node_set.specs.Views.{ViewState}
 use Rattle.core_state.specs.States.{CoreState}
 
--- a head, places for held indices, nodes and blocks, and the roots
+-- a head, places for held indices, nodes and blocks, the roots and their hash; for how many blocks memory is taken, and of how many
+-- bytes the place of one that is to come in is, if there is one
 pub record Stored : Type 0 where
   pub parts : Parts
   pub roots : List Node
+  pub root : List ℕ
+  pub room : ℕ
+  pub spare : Option ℕ
 
 -- the content that they show
 abbrev pub content_of : Stored → Content
@@ -24,6 +29,7 @@ pub record IsKept (stored : Stored) : Type 0 where
   pub spare : (index : ℕ) → has stored.parts.held index ≡ true → index < stored.parts.head.length
   pub blocks : length stored.parts.blocks ≡ stored.parts.head.length
   pub root_nodes : stored.roots ≡ roots (content_of stored)
+  pub root_is : stored.root ≡ root_hash_of stored.roots
   pub sound : IsSound (content_of stored)
   pub limits : KeepsLimits (content_of stored)
 

@@ -9,3 +9,4 @@ pub mod InMemory
 pub mod Stores
 pub mod Batches
 pub mod Turns
+pub mod Reserves

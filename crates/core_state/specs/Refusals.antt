@@ -1,12 +1,16 @@
--- Why an append is refused, and what a core answers of a block's path.
-use Rattle.std.specs.Prelude.{ℕ, ◌+◌, List, [], ◌∷◌, length, Option, None, Result, Ok, Err, nat_le, nat_lt, if◌then◌else◌}
+-- Why an append is refused, and what a core answers of a block's path and to a request.
+use Rattle.std.specs.Prelude.{ℕ, ◌+◌, List, [], ◌∷◌, length, Option, Some, None, Result, Ok, Err, nat_le, nat_lt, if◌then◌else◌}
 use Rattle.flat_tree.specs.declared.limits.TheConstants.{MAX_BLOCKS, MAX_BLOCK_BYTES, MAX_CORE_BYTES, MAX_BATCH_BLOCKS, MAX_BATCH_BYTES}
 use Rattle.merkle_nodes.specs.declared.limit.What.TheVariants.{Block, Blocks, Bytes, Batch, BatchBytes}
+use Rattle.proof_form.specs.declared.request.Request.{Request}
+use Rattle.proof_form.specs.Proofs.{Proof}
 use Rattle.node_set.specs.declared.fault.CoreFault.{CoreFault}
-use Rattle.node_set.specs.declared.fault.CoreFault.TheVariants.{OutOfRange, Limit}
+use Rattle.node_set.specs.declared.fault.CoreFault.TheVariants.{OutOfRange, Limit, NoReply}
 use Rattle.node_set.specs.Contents.{Content, roots, bytes_under}
 use Rattle.node_set.specs.Offsets.{need_of}
 use Rattle.node_set.specs.Refuses.{or_else, refuse_if}
+use Rattle.proof_make.specs.Answers.{made_from}
+use Rattle.proof_make.specs.Offers.{is_plain}
 
 -- the limit that a block of so many bytes passes first, behind a core of so many blocks and bytes, and in an append that
 -- has so many blocks and bytes before it
@@ -31,3 +35,12 @@ append_refusal m more = limit_in m.length (bytes_under (roots m)) 0 0 more
 -- the siblings that a block needs
 abbrev pub need_answer : Content → ℕ → Result ℕ CoreFault
 need_answer m index = if nat_lt index m.length then Ok (need_of m index) else Err (OutOfRange m.length)
+
+-- a proof that may be there, or no reply
+abbrev pub or_no_reply : Option Proof → Result Proof CoreFault
+or_no_reply None = Err NoReply
+or_no_reply (Some proof) = Ok proof
+
+-- the honest proof for a request; so far none for one of a node or of a sought byte
+abbrev pub proof_answer : Content → Request → Result Proof CoreFault
+proof_answer m request = if is_plain request then or_no_reply (made_from m request) else Err NoReply

@@ -1,4 +1,5 @@
 -- A content in memory as its parts.
+use Rattle.std.specs.Prelude.{ℕ, List, length, option_map, vec_capacity}
 use Rattle.core_state.specs.declared.stored.MemState.TheInside.{Inside}
 use Rattle.core_state.specs.InMemory.{Stored}
 
@@ -7,4 +8,7 @@ abbrev pub stored_of : Inside → Stored
 stored_of inside = record {
   parts = record { head = inside.head; held = inside.held; nodes = inside.nodes; blocks = inside.blocks.items };
   roots = inside.roots;
+  root = inside.root;
+  room = vec_capacity inside.blocks;
+  spare = option_map (λ (bytes : List ℕ). length bytes) inside.spare;
 }

@@ -2,7 +2,7 @@
 ghost use Rattle.std.specs.Prelude.{◌≡◌, IfOk, length};
 ghost use Rattle.flat_tree.specs.declared.limits.TheConstants.{MAX_BLOCK_BYTES};
 ghost use Rattle.core_state.specs.Events.{event_of};
-ghost use Rattle.core_state.specs.Calls.{HasRoom};
+ghost use Rattle.core_state.specs.Calls.{Needs};
 
 use crate::{Core, Event, MemCore, Reply, act};
 use flat_tree::MAX_BLOCK_BYTES;
@@ -43,7 +43,7 @@ fn number_in(reply: &Reply<'_>) -> Option<u64> {
 
 // What an event on that log replies.
 fn number_after(alloc: Global, event: &Event<'_>) -> Result<Option<u64>, Fail>
-    requires room { HasRoom (event_of event.now) MAX_BLOCK_BYTES }
+    requires needs { Needs (event_of event.now) MAX_BLOCK_BYTES }
 {
     let mut core = two(alloc)?;
     let mut place = place_of(alloc, MAX_BLOCK_BYTES)?;

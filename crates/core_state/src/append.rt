@@ -1,5 +1,5 @@
 //! Blocks that come in at the end of a content in memory.
-ghost use Rattle.std.specs.Prelude.{◌≡◌, ◌<◌, ◌≤◌, ◌+◌, ◌++◌, ℕ, List, [], true, length, OnOk, OnErr};
+ghost use Rattle.std.specs.Prelude.{◌≡◌, ◌<◌, ◌≤◌, ◌+◌, ◌++◌, ℕ, List, [], true, length, IsOk, OnOk, OnErr};
 ghost use Rattle.std.specs.List.{AllByRecursion};
 ghost use Rattle.bit_field.specs.Places.{has};
 ghost use Rattle.bit_field.specs.declared.bits.TheConstants.{MAX_PLACES};
@@ -19,7 +19,7 @@ use crate::stored::{MemState, signature_of};
 use bit_field::Bits;
 use commit_book::Commit;
 use merkle_batch::Batch;
-use merkle_nodes::{Head, Limit};
+use merkle_nodes::{Head, Limit, root_hash};
 use node_set::{CoreFault, Nodes, Receipt};
 use outside_traits::{Blob, Blobs, Memory, Signer};
 use std::alloc::Global;
@@ -97,10 +97,11 @@ impl MemState {
         self.nodes.insert_all(batch.nodes());
         self.held.set_range(length, end);
         self.roots = batch.roots().copy();
+        self.root = root_hash(batch.roots());
         self.head = Head {
             fork,
             length: end,
-            signature: signature_of(auth, batch.roots(), end, fork),
+            signature: signature_of(auth, &self.root, end, fork),
         };
         Ok(())
     }
@@ -155,10 +156,11 @@ fn make_room(
     push_copies(alloc, kept, blocks)
 }
 
-// Makes so many places at least, of which the further ones are not in the set.
-fn make_places(alloc: Global, held: &mut Bits, count: u64) -> Result<(), Memory>
+/// Makes so many places at least, of which the further ones are not in the set.
+pub(crate) fn make_places(alloc: Global, held: &mut Bits, count: u64) -> Result<(), Memory>
     requires within { count ≤ MAX_PLACES }
     ensures places { OnOk result (count ≤ length held.new) }
+    ensures idle { count ≤ length held.old → IsOk result }
     ensures more { length held.old ≤ length held.new }
     ensures held { (place : ℕ) → has held.new place ≡ has held.old place }
 {

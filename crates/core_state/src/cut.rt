@@ -5,15 +5,16 @@ ghost use Rattle.flat_tree.specs.declared.limits.TheConstants.{MAX_FORK};
 ghost use Rattle.node_set.specs.Contents.{held, roots_at};
 ghost use Rattle.node_set.specs.Closure.{in_closure};
 ghost use Rattle.node_set.specs.Changes.{clear_content};
-ghost use Rattle.core_forks.specs.Refusals.{first_missing};
+ghost use Rattle.core_forks.specs.Refusals.{first_missing, truncate_refusal, clear_refusal};
+ghost use Rattle.core_forks.specs.Truncations.{IsTruncation, IsClearing};
 ghost use Rattle.core_state.specs.Events.{Truncate, Clear};
-ghost use Rattle.core_state.specs.Turns.{Turns, Cuts};
-ghost use Rattle.core_state.specs.InMemory.{content_of};
+ghost use Rattle.core_state.specs.Turns.{Turns, Decides, Cuts};
+ghost use Rattle.core_state.specs.InMemory.{content_of, view_of};
 
 use crate::stored::{MemState, signature_of};
 use commit_book::Commit;
-use merkle_nodes::{Head, Roots};
-use node_set::{CoreFault, Receipt};
+use merkle_nodes::{Head, Roots, root_hash};
+use node_set::{Change, CoreFault, Receipt};
 use outside_traits::{Blob, Signer};
 use std::alloc::Global;
 
@@ -28,12 +29,20 @@ impl MemState {
         ensures { Turns (A.accepts auth.now) (content_of self.old) (Truncate to fork)
             (content_of self.new) result }
     {
-        let change = match core_forks::truncate(self, to, fork) {
+        let change = match self.truncation(to, fork) {
             Ok(change) => change,
             Err(fault) => return Err(fault),
         };
         self.cut(&change.roots, to, fork, auth);
         Ok(self.receipt(Some(Commit::Truncate { to, fork })))
+    }
+
+    // Whether the log may be cut.
+    fn truncation(&self, to: u64, fork: u64) -> Result<Change, CoreFault>
+        ensures { Decides (truncate_refusal (content_of self.now) to fork)
+            (IsTruncation (view_of self.now) to fork) result }
+    {
+        core_forks::truncate(&mut self.view(), to, fork)
     }
 
     // Keeps what is below a length, under these roots.
@@ -46,10 +55,11 @@ impl MemState {
         ensures { Cuts (A.accepts auth.now) (content_of self.old) to fork (content_of self.new) }
     {
         let places = self.held.places();
+        self.root = root_hash(roots);
         self.head = Head {
             fork,
             length: to,
-            signature: signature_of(auth, roots, to, fork),
+            signature: signature_of(auth, &self.root, to, fork),
         };
         self.roots = roots.copy();
         self.blocks.truncate(to as usize);
@@ -62,7 +72,7 @@ impl MemState {
         ensures { (accepts : List ℕ → List ℕ → Bool)
             → Turns accepts (content_of self.old) (Clear from to) (content_of self.new) result }
     {
-        let change = match core_forks::clear(self, from, to) {
+        let change = match self.clearing(from, to) {
             Ok(change) => change,
             Err(fault) => return Err(fault),
         };
@@ -71,6 +81,14 @@ impl MemState {
         }
         self.give_up(alloc, from, to);
         Ok(self.receipt(Some(Commit::Clear { from, to })))
+    }
+
+    // Whether blocks may be given up, and whether one of them is held.
+    fn clearing(&self, from: u64, to: u64) -> Result<Change, CoreFault>
+        ensures { Decides (clear_refusal (content_of self.now) from to)
+            (IsClearing (content_of self.now) from to) result }
+    {
+        core_forks::clear(&mut self.view(), from, to)
     }
 
     // Gives up the blocks from..to.

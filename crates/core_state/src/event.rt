@@ -3,7 +3,8 @@
 use merkle_nodes::Info;
 use node_set::{CoreFault, Receipt};
 use outside_traits::Blobs;
-use proof_form::BlockPart;
+use proof_check::Prepared;
+use proof_form::{BlockPart, Proof, Request};
 
 /// One call of a core.
 #[derive(Clone, Copy)]
@@ -16,6 +17,10 @@ pub enum Event<'e> {
     Truncate { to: u64, fork: u64 },
     /// The blocks from..to are given up.
     Clear { from: u64, to: u64 },
+    /// What a proof brings comes in.
+    Admit(&'e Prepared<'e>),
+    /// A proof is asked for.
+    Make(&'e Request),
     /// The block of an index is read.
     Get { index: u64 },
     /// How many siblings a block needs.
@@ -31,6 +36,8 @@ pub enum Reply<'b> {
     Told(Info),
     /// To a change: the head after it.
     Done(Result<Receipt, CoreFault>),
+    /// To `Make`: the proof.
+    Made(Result<Proof<'b>, CoreFault>),
     /// To `Get`: the block, and the siblings of its path.
     Read(Result<BlockPart<'b>, CoreFault>),
     /// To `Need`: the number of siblings.

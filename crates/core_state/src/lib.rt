@@ -5,6 +5,9 @@
 #[cfg(test)]
 mod act_tests;
 mod acting;
+mod admit;
+#[cfg(test)]
+mod admit_tests;
 mod append;
 mod cut;
 mod event;

@@ -1,7 +1,9 @@
 //! The core in memory.
-ghost use Rattle.std.specs.Prelude.{◌≡◌, true};
+ghost use Rattle.std.specs.Prelude.{◌≡◌, true, OnOk};
 ghost use Rattle.node_set.specs.Contents.{start};
+ghost use Rattle.proof_check.specs.Admission.{IsPlain};
 ghost use Rattle.core_state.specs.InMemory.{content_of, view_of, mem_state};
+ghost use Rattle.core_state.specs.Reserves.{IsReserved};
 
 use crate::log_core::Core;
 use crate::stored::MemState;
@@ -9,7 +11,9 @@ use bit_field::PAGE_BYTES;
 use core_snap::{ReadAt, read_held};
 use merkle_nodes::{Head, Info, Node, Roots};
 use node_set::{CoreFault, Receipt, View};
-use outside_traits::{Blobs, Signer};
+use outside_traits::{Blobs, Memory, Signer};
+use proof_check::Prepared;
+use proof_form::{Proof, Request};
 use std::alloc::Global;
 use std::marker::Model;
 
@@ -42,6 +46,17 @@ impl<A: Signer> MemCore<A> {
             auth,
         }
     }
+
+    /// Takes all memory that an admission of this proof wants: an `admit` of it takes none from then on, until another
+    /// change. Takes none where the proof is refused. The content stays, also without memory.
+    pub fn reserve(&mut self, alloc: Global, prepared: &Prepared<'_>) -> Result<(), Memory>
+        requires plain { IsPlain prepared.now }
+        ensures reserved { OnOk result (IsReserved (A.accepts self.new.auth) self.new.stored prepared.now) }
+        ensures content { content_of self.new.stored ≡ content_of self.old.stored }
+        ensures auth { self.new.auth ≡ self.old.auth }
+    {
+        self.state.reserve(alloc, prepared, &self.auth)
+    }
 }
 
 impl<A: Signer> View for MemCore<A> {
@@ -60,11 +75,11 @@ impl<A: Signer> View for MemCore<A> {
     }
 
     fn node(&mut self, index: u64) -> Result<Option<Node>, CoreFault> {
-        self.state.node(index)
+        Ok(self.state.node(index))
     }
 
     fn block(&mut self, index: u64, out: &mut [u8]) -> Result<usize, CoreFault> {
-        self.state.block(index, out)
+        Ok(self.state.block(index, out))
     }
 }
 
@@ -72,6 +87,8 @@ impl<A: Signer> Core for MemCore<A> {
     ghost state = { λ core. mem_state (A.accepts core.auth) (content_of core.stored) };
 
     ghost TAKES_MEMORY = { true };
+
+    ghost IsReserved = { λ core p. IsReserved (A.accepts core.auth) core.stored p };
 
     const TAKES_MEMORY: bool = true;
 
@@ -95,8 +112,16 @@ impl<A: Signer> Core for MemCore<A> {
         self.state.clear(alloc, from, to)
     }
 
+    fn admit(&mut self, alloc: Global, prepared: &Prepared<'_>) -> Result<Receipt, CoreFault> {
+        self.state.admit(alloc, prepared, &self.auth)
+    }
+
+    fn make<'b>(&mut self, request: &Request, buf: &'b mut [u8]) -> Result<Proof<'b>, CoreFault> {
+        proof_make::make(&mut self.state.view(), request, buf)
+    }
+
     fn get(&mut self, index: u64, buf: &mut [u8]) -> Result<ReadAt, CoreFault> {
-        read_held(&mut self.state, index, buf)
+        read_held(&mut self.state.view(), index, buf)
     }
 
     fn need(&mut self, index: u64) -> Result<u64, CoreFault> {

@@ -1,17 +1,23 @@
 //! Lists of steps.
-ghost use Rattle.std.specs.Prelude.{◌≡◌, ◌≤◌, ◌≢◌, [], IfOk, IfErr, length, map, take};
+ghost use Rattle.std.specs.Prelude.{◌≡◌, ◌≤◌, ◌≢◌, [], IfOk, IfErr, length, map, option_map, take};
 ghost use Rattle.flat_tree.specs.declared.limits.TheConstants.{MAX_BLOCK_BYTES};
 ghost use Rattle.node_set.specs.declared.fault.CoreFault.TheVariants.{Memory as MemoryFault};
 ghost use Rattle.core_state.specs.Events.Reply.{Done, Read};
 ghost use Rattle.core_state.specs.Next.{answer_in};
-ghost use Rattle.core_state.specs.Plays.{event_of_step, status_of, kept_with, KeepsReply, PlaysStep, AddsKept, AddsReplies};
+ghost use Rattle.core_state.specs.Events.{Admit};
+ghost use Rattle.wire_messages.specs.Reading.{message_of};
+ghost use Rattle.proof_form.specs.Proofs.{ProofFits, view as proof_view};
+ghost use Rattle.core_state.specs.Plays.{event_of_step, plain_of, offer_of, status_of, kept_with, KeepsReply, PlaysStep, AddsKept, AddsReplies};
 
 use crate::log_core::Core;
 use core_snap::ReadAt;
 use flat_tree::MAX_BLOCK_BYTES;
 use node_set::{CoreFault, Receipt};
 use outside_traits::{Blob, Blobs, Memory};
+use proof_check::prepare;
+use proof_form::Proof;
 use std::alloc::Global;
+use wire_messages::{Message, decode};
 
 /// A step of a list: an event that owns what it takes.
 #[derive(Drop)]
@@ -19,6 +25,8 @@ pub enum Step {
     Append(Blobs),
     Truncate { to: u64, fork: u64 },
     Clear { from: u64, to: u64 },
+    /// The body of a message from a peer, which may be an answer with a proof.
+    Peer(Blob),
     Get { index: u64 },
 }
 
@@ -127,8 +135,40 @@ fn answer<C: Core>(
         Step::Append(blocks) => keep_change(core.append(alloc, blocks), none),
         Step::Truncate { to, fork } => keep_change(core.truncate(alloc, *to, *fork), none),
         Step::Clear { from, to } => keep_change(core.clear(alloc, *from, *to), none),
+        Step::Peer(body) => admit_body(core, alloc, body.bytes(), none),
         Step::Get { index } => keep_read(alloc, core.get(*index, place), place, none),
     }
+}
+
+// Offers the proof of an answer to the core. A message of another kind, and so far a proof of a node or of a sought byte, is
+// a peer's fault.
+fn admit_body<C: Core>(core: &mut C, alloc: Global, body: &[u8], none: Blob) -> Result<Kept, Memory>
+    requires none { none ≡ [] }
+    ensures { PlaysStep C.Core.TAKES_MEMORY (C.Core.state core.old) (option_map Admit (offer_of (message_of body.now)))
+        (C.Core.state core.new) result }
+{
+    match decode(body) {
+        Ok(Message::Answer { id: _, proof }) => admit_plain(core, alloc, &proof, none),
+        _ => keep_fault(CoreFault::NoReply, none),
+    }
+}
+
+// Offers a proof to the core, if it has no part but a block and an upgrade.
+fn admit_plain<C: Core>(
+    core: &mut C,
+    alloc: Global,
+    proof: &Proof<'_>,
+    none: Blob,
+) -> Result<Kept, Memory>
+    requires none { none ≡ [] }
+    requires fits { ProofFits (proof_view proof.now) }
+    ensures { PlaysStep C.Core.TAKES_MEMORY (C.Core.state core.old) (option_map Admit (plain_of (proof_view proof.now)))
+        (C.Core.state core.new) result }
+{
+    if proof.hash.is_some() || proof.seek.is_some() {
+        return keep_fault(CoreFault::NoReply, none);
+    }
+    keep_change(core.admit(alloc, &prepare(proof)), none)
 }
 
 // What is kept of a change.

@@ -1,9 +1,10 @@
 //! A content in memory, and the view of it.
 ghost use Rattle.std.specs.Prelude.{◌≡◌, ◌≤◌, IfOk, IsTrue, length as count};
-ghost use Rattle.flat_tree.specs.declared.limits.TheConstants.{MAX_CORE_BYTES, MAX_SIBLINGS};
-ghost use Rattle.merkle_nodes.specs.Roots.{root_hash_of, signed_text};
+ghost use Rattle.flat_tree.specs.declared.limits.TheConstants.{MAX_BLOCK_BYTES, MAX_CORE_BYTES, MAX_SIBLINGS};
+ghost use Rattle.node_set.specs.Views.{IsUsable, StandsSoundly, GivesNode, GivesBlock};
+ghost use Rattle.merkle_nodes.specs.Roots.{signed_text};
 ghost use Rattle.bit_field.specs.Pages.{page_of};
-ghost use Rattle.node_set.specs.Contents.{start, held, bytes_under};
+ghost use Rattle.node_set.specs.Contents.{start, held, roots, bytes_under};
 ghost use Rattle.core_state.specs.States.{info_of, receipt_of};
 ghost use Rattle.core_state.specs.Refusals.{need_answer};
 ghost use Rattle.core_state.specs.InMemory.{content_of, view_of};
@@ -21,9 +22,13 @@ use std::marker::Model;
 pub(crate) struct MemState {
     pub(crate) head: Head,
     pub(crate) roots: Roots,
+    // Their root hash.
+    pub(crate) root: [u8; 32],
     pub(crate) held: Bits,
     pub(crate) nodes: Nodes,
     pub(crate) blocks: Vec<Blob>,
+    // A place for the bytes of a block that is to come in.
+    pub(crate) spare: Option<Blob>,
 }
 
 impl Model for MemState {
@@ -42,16 +47,20 @@ impl MemState {
     pub(crate) fn new(alloc: Global) -> MemState
         ensures { content_of result ≡ start }
     {
+        let roots = Roots::new(Node::BLANK);
+        let root = root_hash(&roots);
         MemState {
             head: Head {
                 fork: 0,
                 length: 0,
                 signature: [0; 64],
             },
-            roots: Roots::new(Node::BLANK),
+            roots,
+            root,
             held: Bits::none(alloc),
             nodes: Nodes::new(alloc),
             blocks: Vec::new(alloc),
+            spare: None,
         }
     }
 
@@ -64,7 +73,7 @@ impl MemState {
             length: self.head.length,
             bytes: bytes_under(self.roots.as_slice()),
             held: self.held.count(),
-            root: root_hash(&self.roots),
+            root: self.root,
         }
     }
 
@@ -75,7 +84,7 @@ impl MemState {
         Receipt {
             fork: self.head.fork,
             length: self.head.length,
-            root: root_hash(&self.roots),
+            root: self.root,
             commit,
         }
     }
@@ -88,28 +97,83 @@ impl MemState {
         self.held.page(number, out);
     }
 
+    /// The fork, the length and the signature.
+    pub(crate) fn head(&self) -> Head
+        ensures head { result ≡ self.now.parts.head }
+        ensures usable { IsUsable (content_of self.now) }
+        ensures sound { StandsSoundly (view_of self.now) }
+    {
+        self.head
+    }
+
+    /// Whether the block of an index is held.
+    pub(crate) fn held(&self, index: u64) -> bool
+        ensures { result ≡ held (content_of self.now) index }
+    {
+        index < self.head.length && self.held.get(index)
+    }
+
+    /// The node of a number, where it is to be stored.
+    pub(crate) fn node(&self, index: u64) -> Option<Node>
+        ensures { GivesNode (view_of self.now) index result }
+    {
+        if is_stored(self.head.length, &self.held, index) {
+            return self.nodes.get(index);
+        }
+        None
+    }
+
+    /// Reads a held block to the front of `out`, and gives its number of bytes.
+    pub(crate) fn block(&self, index: u64, out: &mut [u8]) -> usize
+        requires held { IsTrue (held (content_of self.now) index) }
+        requires room { MAX_BLOCK_BYTES ≤ count out.old }
+        ensures { GivesBlock (view_of self.now) index out.new result }
+    {
+        let bytes = self.blocks[index as usize].bytes();
+        out[..bytes.len()].copy_from_slice(bytes);
+        bytes.len()
+    }
+
+    /// The full roots of the length.
+    pub(crate) fn roots(&self) -> &Roots
+        ensures { result.now ≡ roots (content_of self.now) }
+    {
+        &self.roots
+    }
+
+    /// It as a view, whose calls don't change it.
+    pub(crate) fn view(&self) -> MemView<'_>
+        ensures { result.state.now ≡ self.now }
+    {
+        MemView { state: self }
+    }
+
     /// How many siblings a block needs.
-    pub(crate) fn need(&mut self, index: u64) -> Result<u64, CoreFault>
-        ensures answer { result ≡ need_answer (content_of self.old) index }
+    pub(crate) fn need(&self, index: u64) -> Result<u64, CoreFault>
+        ensures answer { result ≡ need_answer (content_of self.now) index }
         ensures few { IfOk result (λ levels. levels ≤ MAX_SIBLINGS) }
-        ensures same { content_of self.new ≡ content_of self.old }
     {
         let end = self.head.length;
         if index < end {
-            need(self, index)
+            need(&mut self.view(), index)
         } else {
             Err(CoreFault::OutOfRange { end })
         }
     }
 }
 
-/// The signature of a head over these roots.
-pub(crate) fn signature_of<A: Signer>(auth: &A, roots: &Roots, length: u64, fork: u64) -> [u8; 64]
-    ensures accepted { IsTrue (A.accepts auth.now
-        (signed_text (root_hash_of roots.now) length fork) result) }
+/// The view of a content in memory.
+#[derive(Drop)]
+pub(crate) struct MemView<'a> {
+    state: &'a MemState,
+}
+
+/// The signature of a head over the roots with this root hash.
+pub(crate) fn signature_of<A: Signer>(auth: &A, root: &[u8; 32], length: u64, fork: u64) -> [u8; 64]
+    ensures accepted { IsTrue (A.accepts auth.now (signed_text root.now length fork) result) }
     ensures wide { count result ≡ 64 }
 {
-    auth.sign(&signable(&root_hash(roots), length, fork))
+    auth.sign(&signable(root, length, fork))
 }
 
 // The bytes under some nodes.
@@ -120,31 +184,26 @@ fn bytes_under(nodes: &[Node]) -> u64
     nodes.iter().map(|node| node.size).sum()
 }
 
-impl View for MemState {
-    ghost view = { view_of };
+impl<'a> View for MemView<'a> {
+    ghost view = { λ view. view_of view.state.now };
 
     fn head(&self) -> Head {
-        self.head
+        self.state.head()
     }
 
     fn roots(&self) -> &Roots {
-        &self.roots
+        self.state.roots()
     }
 
     fn held(&self, index: u64) -> bool {
-        index < self.head.length && self.held.get(index)
+        self.state.held(index)
     }
 
     fn node(&mut self, index: u64) -> Result<Option<Node>, CoreFault> {
-        if is_stored(self.head.length, &self.held, index) {
-            return Ok(self.nodes.get(index));
-        }
-        Ok(None)
+        Ok(self.state.node(index))
     }
 
     fn block(&mut self, index: u64, out: &mut [u8]) -> Result<usize, CoreFault> {
-        let bytes = self.blocks[index as usize].bytes();
-        out[..bytes.len()].copy_from_slice(bytes);
-        Ok(bytes.len())
+        Ok(self.state.block(index, out))
     }
 }

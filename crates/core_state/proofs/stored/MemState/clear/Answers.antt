@@ -5,9 +5,9 @@ use Rattle.core_state.proofs.stored.MemState.clear.Goals as goal
 
 pub returns-then-is_none : goal.returns-then-is_none
 returns-then-is_none c accepts =
-    clear_none accepts c.args.self.now c.clear.new.view c.args.from c.args.to c.in-Ok.change _ c.in-Ok.ensures.keeps c.in-Ok.ensures.answers.0 c.in-Ok.ensures.answers.1 (search rules) c.receipt.ensures
+    clear_none accepts _ c.args.from c.args.to c.in-Ok.change _ c.in-Ok.ensures.0 c.in-Ok.ensures.1 (search rules) c.receipt.ensures
 
 pub returns : goal.returns
 returns c accepts =
-    clear_turns accepts c.args.self.now c.clear.new.view _ c.args.from c.args.to c.in-Ok.change _ c.in-Ok.ensures.keeps c.in-Ok.ensures.answers.0 c.in-Ok.ensures.answers.1 (c.is_none.ensures ∙ ap not c.if-is_none.false) c.receipt-2.ensures
-    c.give_up.ensures
+    clear_turns accepts _ _ c.args.from c.args.to c.in-Ok.change _ c.in-Ok.ensures.0 c.in-Ok.ensures.1 (c.is_none.ensures ∙ ap not c.if-is_none.false)
+    c.receipt-2.ensures c.give_up.ensures

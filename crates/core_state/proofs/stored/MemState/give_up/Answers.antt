@@ -1,4 +1,4 @@
-use Rattle.std.proofs.Common.{refl}
+use Rattle.std.proofs.Common.{None, refl}
 use Rattle.core_state.proofs.ClearLemmas.{left_kept, left_clears}
 use Rattle.core_state.proofs.stored.MemState.give_up.Goals as goal
 
@@ -6,6 +6,7 @@ pub invariant_of-self : goal.invariant_of-self
 invariant_of-self c = left_kept _ _ _ c.self.invariant c.self.view_is c.args.from c.args.to (record {
   head = refl;
   roots_stay = refl;
+  root_stays = refl;
   places = c.clear_range.ensures.places;
   held = c.clear_range.ensures.range;
   values = c.prune.ensures.values;
@@ -14,9 +15,10 @@ invariant_of-self c = left_kept _ _ _ c.self.invariant c.self.view_is c.args.fro
 })
 
 pub returns : goal.returns
-returns c = left_clears _ _ _ c.self.invariant c.self.view_is c.args.from c.args.to (record {
+returns c = left_clears _ _ (record { parts = _; roots = _; root = _; room = 0; spare = None }) c.self.invariant c.self.view_is c.args.from c.args.to (record {
   head = refl;
   roots_stay = refl;
+  root_stays = refl;
   places = c.clear_range.ensures.places;
   held = c.clear_range.ensures.range;
   values = c.prune.ensures.values;

@@ -7,5 +7,5 @@ use Rattle.core_state.proofs.stored.MemState.info.Goals as goal
 
 pub returns : goal.returns
 returns c =
-    info_is _ c.self.invariant _ _ _ (c.bytes_under.ensures ∙ ap bytes_under c.as_slice.ensures.items) c.count.ensures c.root_hash.ensures
+    info_is _ c.self.invariant _ _ _ (c.bytes_under.ensures ∙ ap bytes_under c.as_slice.ensures.items) c.count.ensures c.self.invariant.root_is
     ∙ ap (λ (s : Stored). info_of (content_of s)) c.self.view_is

@@ -6,4 +6,4 @@ use Rattle.core_state.proofs.stored.MemState.receipt.Goals as goal
 
 pub returns : goal.returns
 returns c =
-    receipt_is _ c.self.invariant c.args.commit _ c.root_hash.ensures ∙ ap (λ (s : Stored). receipt_of (content_of s) c.args.commit) c.self.view_is
+    receipt_is _ c.self.invariant c.args.commit _ c.self.invariant.root_is ∙ ap (λ (s : Stored). receipt_of (content_of s) c.args.commit) c.self.view_is

@@ -2,7 +2,7 @@ use Rattle.std.proofs.Common.{subst}
 use Rattle.node_set.specs.Views.{IsUsable, StandsSoundly}
 use Rattle.core_state.specs.InMemory.{Stored, content_of, view_of}
 use Rattle.core_state.proofs.KeptLemmas.{usable}
-use Rattle.core_state.proofs.stored.MemStateView.head.Goals as goal
+use Rattle.core_state.proofs.stored.MemState.head.Goals as goal
 
 pub returns-clause-usable : goal.returns-clause-usable
 returns-clause-usable c = subst (λ (s : Stored). IsUsable (content_of s)) c.self.view_is (usable _ c.self.invariant)

@@ -1,182 +1,39 @@
 //! Times the core in memory against the hashes that its work needs. `append BATCHES` appends batches of 1,024 blocks of 32
 //! bytes; `get BATCHES` reads each block of such a log in order, and `jump BATCHES` each block after one of another batch;
-//! `hash BATCHES PARENTS` makes the hashes of as many leaves, with so many parents each. Each prints the nanoseconds of the
-//! first tenth of the batches, of the last tenth, and of all. With no words it prints nothing.
+//! `hash BATCHES PARENTS` makes the hashes of as many leaves, with so many parents each. `admit BATCHES` upgrades a core to
+//! a log of so many batches of 1,024 blocks of 1,000 bytes and admits each block in order, and `admit-jump BATCHES` where
+//! they jump about; `hash-admit BATCHES PARENTS` makes the hashes of as many leaves, and so many parents in all. Each
+//! prints the nanoseconds of the first tenth, of the last tenth, and of all; behind them the admissions print how many
+//! parents they hashed, and how many blocks are held then. With no words it prints nothing.
 #![tactic(auto)]
 
-ghost use Rattle.std.specs.Prelude.{◌≡◌, ◌≤◌, IfOk, length};
-ghost use Rattle.flat_tree.specs.declared.limits.TheConstants.{MAX_BLOCK_BYTES};
+mod admits;
+mod appends;
+mod hashes;
+mod offers;
+mod times;
 
-use blake2b_hash::hash256;
+ghost use Rattle.std.specs.Prelude.{◌≡◌, IfOk, length};
+
+use crate::admits::{Admitted, BLOCK_BYTES, Order, admit_all, upgrade};
+use crate::appends::{BATCH_BLOCKS, append_all, get_all};
+use crate::hashes::{hash_admitted, hash_all};
+use crate::times::Times;
 use core_state::{Core, MemCore};
 use flat_tree::MAX_BLOCK_BYTES;
-use outside_traits::{Blob, Blobs, Memory, PlainAuth};
+use outside_traits::{Blob, Memory, PlainAuth};
 use std::alloc::Global;
-use std::time::Instant;
 use std::{env, io};
 
 // How far apart the blocks are that are read one after the other where reads jump about.
 const JUMP_BATCHES: u64 = 577;
 
-// The blocks of a batch, and their bytes.
-const BATCH_BLOCKS: u64 = 1024;
+// How far apart the blocks are that are admitted one after the other where admissions jump about: in a log of 65,536
+// blocks each 395 of them lie all over it, and the next 395 are the ones beside.
+const JUMP_BLOCKS: u64 = 40_483;
 
-const BLOCK_BYTES: usize = 32;
-
-// What is hashed for such a block's leaf, and for a parent.
-const LEAF_BYTES: usize = 41;
-
-const PARENT_BYTES: usize = 73;
-
-// The nanoseconds of some batches: of the first tenth, of the last tenth, and of all.
-#[derive(Clone, Copy)]
-struct Times {
-    batches: u64,
-    first: u64,
-    last: u64,
-    all: u64,
-}
-
-impl Times {
-    fn new(batches: u64) -> Times {
-        Times {
-            batches,
-            first: 0,
-            last: 0,
-            all: 0,
-        }
-    }
-
-    // Adds a batch that took so long.
-    fn add(&mut self, number: u64, nanoseconds: u64) {
-        let tenth = self.batches / 10;
-        if number < tenth {
-            self.first = self.first.saturating_add(nanoseconds);
-        }
-        if number >= self.batches.saturating_sub(tenth) {
-            self.last = self.last.saturating_add(nanoseconds);
-        }
-        self.all = self.all.saturating_add(nanoseconds);
-    }
-}
-
-// The nanoseconds since then.
-fn since(rt: &HostRuntime, start: &Instant) -> io::Result<u64> {
-    Ok(u64::try_from(start.elapsed(rt)?.as_nanos()).unwrap_or(u64::MAX))
-}
-
-// A batch whose blocks begin with their own numbers.
-fn batch(alloc: Global, number: u64) -> Result<Blobs, Memory> {
-    let mut blocks = Blobs::new();
-    let mut block = [0; BLOCK_BYTES];
-    for place in 0..BATCH_BLOCKS {
-        let index = number.wrapping_mul(BATCH_BLOCKS).wrapping_add(place);
-        block[..8].copy_from_slice(&index.to_le_bytes());
-        blocks.push(alloc, &block)?;
-    }
-    Ok(blocks)
-}
-
-// Appends so many batches. Those that fail end the run with what was timed.
-fn append_all<C: Core>(rt: &HostRuntime, core: &mut C, batches: u64) -> io::Result<Times> {
-    let mut times = Times::new(batches);
-    for number in 0..batches {
-        let Ok(blocks) = batch(rt.alloc(), number) else {
-            return Ok(times);
-        };
-        let start = Instant::now(rt)?;
-        if core.append(rt.alloc(), &blocks).is_err() {
-            return Ok(times);
-        }
-        times.add(number, since(rt, &start)?);
-    }
-    Ok(times)
-}
-
-// Reads each block of so many batches, in order, or each after one of so many batches before.
-fn get_all<C: Core>(
-    rt: &HostRuntime,
-    core: &mut C,
-    batches: u64,
-    stride: u64,
-    place: &mut [u8],
-) -> io::Result<Times>
-    requires room { MAX_BLOCK_BYTES ≤ length place.old }
-{
-    let mut times = Times::new(batches);
-    for number in 0..batches {
-        let start = Instant::now(rt)?;
-        if !get_batch(core, number, batches, stride, place) {
-            return Ok(times);
-        }
-        times.add(number, since(rt, &start)?);
-    }
-    Ok(times)
-}
-
-// Reads as many blocks as a batch has, each so many batches after the one before. Whether each was read.
-fn get_batch<C: Core>(
-    core: &mut C,
-    number: u64,
-    batches: u64,
-    stride: u64,
-    place: &mut [u8],
-) -> bool
-    requires room { MAX_BLOCK_BYTES ≤ length place.old }
-{
-    let mut read = true;
-    for step in 0..BATCH_BLOCKS {
-        let other = number.wrapping_add(step.wrapping_mul(stride)) % batches.max(1);
-        let index = other.wrapping_mul(BATCH_BLOCKS).wrapping_add(step);
-        if core.get(index, place).is_err() {
-            read = false;
-        }
-    }
-    read
-}
-
-// Makes the hashes of so many batches.
-fn hash_all(rt: &HostRuntime, batches: u64, parents: u64) -> io::Result<Times> {
-    let mut times = Times::new(batches);
-    let mut mixed = 0;
-    for number in 0..batches {
-        let start = Instant::now(rt)?;
-        mixed ^= hash_batch(number, parents);
-        times.add(number, since(rt, &start)?);
-    }
-    if mixed == 0 {
-        times.first = times.first.saturating_add(1);
-    }
-    Ok(times)
-}
-
-// A byte of each of the hashes of a batch, mixed.
-fn hash_batch(number: u64, parents: u64) -> u8 {
-    let mut leaf = [0; LEAF_BYTES];
-    let mut mixed = 0;
-    for place in 0..BATCH_BLOCKS {
-        let index = number.wrapping_mul(BATCH_BLOCKS).wrapping_add(place);
-        leaf[..8].copy_from_slice(&index.to_le_bytes());
-        mixed ^= hash_path(&leaf, parents);
-    }
-    mixed
-}
-
-// A byte of the last of the hashes of a leaf and so many parents, each of the one before.
-fn hash_path(leaf: &[u8; LEAF_BYTES], parents: u64) -> u8 {
-    let mut hash = hash256(leaf);
-    for _ in 0..parents {
-        hash = hash_parent(&hash);
-    }
-    hash[0]
-}
-
-// A hash of as many bytes as a parent's, which begin with this one.
-fn hash_parent(hash: &[u8; 32]) -> [u8; 32] {
-    let mut parent = [0; PARENT_BYTES];
-    parent[..32].copy_from_slice(hash);
-    hash256(&parent)
-}
+// The bytes of a block that is appended and read.
+const SHORT_BYTES: usize = 32;
 
 // The number that a word spells, or 0.
 fn number_of(word: Option<String>) -> u64 {
@@ -197,20 +54,81 @@ fn place_of(alloc: Global, bytes: u64) -> Result<Blob, Memory>
     Blob::zeros(alloc, bytes as usize)
 }
 
+// A log without blocks.
+fn empty(alloc: Global) -> MemCore<PlainAuth> {
+    MemCore::new(alloc, PlainAuth { mark: 7 })
+}
+
 // Appends so many batches to a new core.
 fn append(rt: &HostRuntime, batches: u64) -> io::Result<Times> {
-    let mut core = MemCore::new(rt.alloc(), PlainAuth { mark: 7 });
-    append_all(rt, &mut core, batches)
+    append_all(rt, &mut empty(rt.alloc()), batches, &mut [0; SHORT_BYTES])
 }
 
 // Reads the blocks of so many batches, each so many batches after the one before.
 fn get(rt: &HostRuntime, batches: u64, stride: u64) -> io::Result<Times> {
-    let mut core = MemCore::new(rt.alloc(), PlainAuth { mark: 7 });
+    let mut core = empty(rt.alloc());
     let Ok(mut place) = place_of(rt.alloc(), MAX_BLOCK_BYTES) else {
         return Ok(Times::new(batches));
     };
-    append_all(rt, &mut core, batches)?;
+    append_all(rt, &mut core, batches, &mut [0; SHORT_BYTES])?;
     get_all(rt, &mut core, batches, stride, place.bytes_mut())
+}
+
+// Admits the blocks of so many batches, each so many blocks after the one before, and prints what was timed.
+fn admit(rt: &HostRuntime, batches: u64, stride: u64) -> io::Result<()> {
+    let mut source = empty(rt.alloc());
+    append_all(rt, &mut source, batches, &mut [0; BLOCK_BYTES])?;
+    let Ok(mut place) = place_of(rt.alloc(), MAX_BLOCK_BYTES) else {
+        return Ok(());
+    };
+    let Ok(blocks) = u32::try_from(batches.saturating_mul(BATCH_BLOCKS)) else {
+        return Ok(());
+    };
+    let mut before = empty(rt.alloc());
+    let mut core = empty(rt.alloc());
+    if !upgrade(
+        &mut source,
+        &mut before,
+        rt.alloc(),
+        blocks,
+        place.bytes_mut(),
+    ) || !upgrade(
+        &mut source,
+        &mut core,
+        rt.alloc(),
+        blocks,
+        place.bytes_mut(),
+    ) {
+        return Ok(());
+    }
+    let order = Order { blocks, stride };
+    let Admitted { times, parents } = admit_all(
+        rt,
+        &mut source,
+        &mut before,
+        &mut core,
+        order,
+        place.bytes_mut(),
+    )?;
+    let held = core.info().held;
+    println!(rt;
+        "{} {} {} {} {}",
+        times.first, times.last, times.all, parents, held
+    )
+}
+
+// Times a work of so many batches.
+fn timed(rt: &HostRuntime, kind: &str, batches: u64, parents: u64) -> io::Result<()> {
+    let times = match kind {
+        "append" => append(rt, batches)?,
+        "get" => get(rt, batches, 0)?,
+        "jump" => get(rt, batches, JUMP_BATCHES)?,
+        "admit" => return admit(rt, batches, 1),
+        "admit-jump" => return admit(rt, batches, JUMP_BLOCKS),
+        "hash-admit" => hash_admitted(rt, batches, parents)?,
+        _ => hash_all(rt, batches, parents)?,
+    };
+    print(rt, times)
 }
 
 fn main(rt: HostRuntime) -> io::Result<()> {
@@ -220,14 +138,6 @@ fn main(rt: HostRuntime) -> io::Result<()> {
         return Ok(());
     };
     let batches = number_of(words.next());
-    let times = if kind.as_str() == "append" {
-        append(&rt, batches)?
-    } else if kind.as_str() == "get" {
-        get(&rt, batches, 0)?
-    } else if kind.as_str() == "jump" {
-        get(&rt, batches, JUMP_BATCHES)?
-    } else {
-        hash_all(&rt, batches, number_of(words.next()))?
-    };
-    print(&rt, times)
+    let parents = number_of(words.next());
+    timed(&rt, kind.as_str(), batches, parents)
 }

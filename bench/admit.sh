@@ -1,0 +1,43 @@
+#!/usr/bin/env bash
+# Times admissions of blocks one by one by the core in memory against the proved hash of the same leaves and parents, in
+# one run in which all of them take turns: the least time of five rounds (of as many as BENCH_ROUNDS says, for a machine
+# that is not quiet).
+# First build the program: (cd crates/core_bench && rt run)
+set -eu
+cd "$(dirname "$0")/.."
+ours=$PWD/crates/core_bench/out/core_bench
+rounds=${BENCH_ROUNDS:-5}
+batches=${BENCH_BATCHES:-64}
+[ -x "$ours" ] || { echo "no $ours: run 'rt run' in crates/core_bench" >&2; exit 2; }
+
+declare -A least first last parents
+for kind in admit admit-jump; do
+    least[$kind]=0
+    least[hash-$kind]=0
+done
+
+# keeps the least time of a kind, with the first and the last tenth of that round
+keep() {
+    if [ "${least[$1]}" = 0 ] || [ "$4" -lt "${least[$1]}" ]; then
+        least[$1]=$4
+        first[$1]=$2
+        last[$1]=$3
+    fi
+}
+
+for _ in $(seq "$rounds"); do
+    for kind in admit admit-jump; do
+        read -r begin end all up held < <($ours "$kind" "$batches")
+        [ "$held" = $((batches * 1024)) ] || { echo "$kind: $held blocks are held" >&2; exit 1; }
+        keep "$kind" "$begin" "$end" "$all"
+        parents[$kind]=$up
+        read -r begin end all < <($ours hash-admit "$batches" "$up")
+        keep "hash-$kind" "$begin" "$end" "$all"
+    done
+done
+
+ratio() { awk -v a="$1" -v b="$2" 'BEGIN { printf "%.2f", a / b }'; }
+for kind in admit admit-jump; do
+    echo "$kind: $(ratio "${least[$kind]}" "${least[hash-$kind]}") of the hashes of its block and path"
+    echo "$kind: last tenth $(ratio "${last[$kind]}" "${first[$kind]}") of the first"
+done

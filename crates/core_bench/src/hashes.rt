@@ -1,0 +1,94 @@
+//! The hashes that the work of a core needs.
+
+use crate::admits::{BLOCK_BYTES, CHUNK_BLOCKS};
+use crate::appends::BATCH_BLOCKS;
+use crate::times::{Times, since};
+use blake2b_hash::hash256;
+use std::io;
+use std::time::Instant;
+
+// What is hashed for a leaf of 32 bytes, for one of an admitted block, and for a parent.
+const SHORT_LEAF_BYTES: usize = 41;
+
+const LEAF_BYTES: usize = 9 + BLOCK_BYTES;
+
+const PARENT_BYTES: usize = 73;
+
+/// Makes the hashes of so many batches of short leaves, with so many parents for each.
+pub(crate) fn hash_all(rt: &HostRuntime, batches: u64, parents: u64) -> io::Result<Times> {
+    let mut times = Times::new(batches);
+    let mut mixed = 0;
+    for number in 0..batches {
+        let start = Instant::now(rt)?;
+        mixed ^= hash_batch(number, parents);
+        times.add(number, since(rt, &start)?);
+    }
+    Ok(with_use(times, mixed))
+}
+
+/// Makes the hashes of so many batches of admitted blocks, with so many parents in all.
+pub(crate) fn hash_admitted(rt: &HostRuntime, batches: u64, parents: u64) -> io::Result<Times> {
+    let chunks = batches.saturating_mul(BATCH_BLOCKS / CHUNK_BLOCKS);
+    let mut times = Times::new(chunks);
+    let mut mixed = 0;
+    let mut done = 0;
+    for number in 0..chunks {
+        let due = parents.wrapping_mul(number.wrapping_add(1)) / chunks.max(1);
+        let start = Instant::now(rt)?;
+        mixed ^= hash_chunk(number, due.wrapping_sub(done));
+        times.add(number, since(rt, &start)?);
+        done = due;
+    }
+    Ok(with_use(times, mixed))
+}
+
+// The times, which depend on what was hashed.
+fn with_use(times: Times, mixed: u8) -> Times {
+    let mut used = times;
+    if mixed == 0 {
+        used.first = used.first.saturating_add(1);
+    }
+    used
+}
+
+// A byte of each of the hashes of a batch, mixed.
+fn hash_batch(number: u64, parents: u64) -> u8 {
+    let mut leaf = [0; SHORT_LEAF_BYTES];
+    let mut mixed = 0;
+    for place in 0..BATCH_BLOCKS {
+        let index = number.wrapping_mul(BATCH_BLOCKS).wrapping_add(place);
+        leaf[..8].copy_from_slice(&index.to_le_bytes());
+        mixed ^= hash_path(hash256(&leaf), parents);
+    }
+    mixed
+}
+
+// The same of a chunk of admitted blocks, with so many parents in all.
+fn hash_chunk(number: u64, parents: u64) -> u8 {
+    let mut leaf = [0; LEAF_BYTES];
+    let mut hash = [0; 32];
+    let mut mixed = 0;
+    for place in 0..CHUNK_BLOCKS {
+        let index = number.wrapping_mul(CHUNK_BLOCKS).wrapping_add(place);
+        leaf[9..17].copy_from_slice(&index.to_le_bytes());
+        hash = hash256(&leaf);
+        mixed ^= hash[0];
+    }
+    mixed ^ hash_path(hash, parents)
+}
+
+// A byte of the last of so many parents, each of the hash before.
+fn hash_path(from: [u8; 32], parents: u64) -> u8 {
+    let mut hash = from;
+    for _ in 0..parents {
+        hash = hash_parent(&hash);
+    }
+    hash[0]
+}
+
+// A hash of as many bytes as a parent's, which begin with this one.
+fn hash_parent(hash: &[u8; 32]) -> [u8; 32] {
+    let mut parent = [0; PARENT_BYTES];
+    parent[..32].copy_from_slice(hash);
+    hash256(&parent)
+}

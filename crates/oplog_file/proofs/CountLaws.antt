@@ -1,18 +1,17 @@
 -- The entries that count: one list of frames for each epoch and bytes, and it is the one that is computed.
-use Rattle.std.proofs.Common.{◌≡◌, ℕ, zero, suc, ◌+◌, ◌-◌, ◌<◌, ◌≤◌, Bool, true, false, cond, leb, List, [], ◌∷◌, ◌++◌, length, take, drop, Option, None, Some, refl, sym, ap, subst, ◌∙◌, append_assoc, length-append, add-one, arith}
-use Rattle.std.proofs.lemmas.Bool.{leb-true, and_parts, and_from, eqb-true, eq-eqb, lt-ltb, ltb-true}
-use Rattle.std.proofs.lemmas.List.{length-drop, length-take-le, drop_at}
+use Rattle.std.proofs.Common.{◌≡◌, ℕ, zero, suc, ◌+◌, ◌<◌, ◌≤◌, Bool, true, false, cond, List, [], ◌∷◌, ◌++◌, length, drop, Option, None, Some, refl, sym, ap, subst, ◌∙◌, append_assoc, arith}
+use Rattle.std.proofs.lemmas.Bool.{and_parts, and_from, eqb-true, eq-eqb, lt-ltb, ltb-true}
+use Rattle.std.proofs.lemmas.List.{length-drop, drop_at}
 use Rattle.std.proofs.lemmas.List.Concat.{flat_map-cons}
 use Rattle.std.specs.List.{flat_map}
-use Rattle.std.specs.Int.{w32, from_le_bytes}
 use Rattle.compact_enc.specs.Reading.{IsBytes}
 use Rattle.oplog_form.specs.declared.entry.TheConstants.{MAX_ENTRY_BYTES}
-use Rattle.oplog_file.specs.Frames.{Frame, frame_spelling, frame_bytes, frame_from, tail_of, u32_bytes, check_of, is_whole, front_of, BeginsWith}
+use Rattle.oplog_file.specs.Frames.{Frame, frame_spelling, frame_bytes, front_of, BeginsWith}
 use Rattle.oplog_file.proofs.FrameLaws.{IsBytes-drop, front_only, front_found, front_bytes, spelling_length}
 use Rattle.oplog_file.specs.Slots.{kept_if}
 use Rattle.oplog_file.specs.Counting.{entries_part, is_entry, entry_in_front, Count, with_others, frames_up_to, entry_frames, IsRun}
 
-abbrev frame_or : Frame → Option Frame → Frame
+abbrev pub frame_or : Frame → Option Frame → Frame
 frame_or other None = other
 frame_or other (Some f) = f
 
@@ -28,7 +27,7 @@ one_list epoch number bytes (f ∷ frames) (g ∷ others) p q =
 
 -- ---- the frames that are computed count
 
-kept : (test : Frame → Bool) (o : Option Frame) (f : Frame) → kept_if test o ≡ Some f → (o ≡ Some f) × (test f ≡ true)
+pub kept : (test : Frame → Bool) (o : Option Frame) (f : Frame) → kept_if test o ≡ Some f → (o ≡ Some f) × (test f ≡ true)
 kept test None f is = let apart : None ≡ Some f = is in cc
 kept test (Some g) f is = kept_by (test g) g f refl is
   where
@@ -37,7 +36,7 @@ kept test (Some g) f is = kept_by (test g) g f refl is
     kept_by false g f fails is = let apart : None ≡ Some f = is in cc
 
 -- a frame that counts has bytes, and they are there
-entry_bytes : (epoch number : ℕ) (bytes : List ℕ) (f : Frame) → entry_in_front epoch number bytes ≡ Some f → (0 < frame_bytes f) × (frame_bytes f ≤ length bytes)
+pub entry_bytes : (epoch number : ℕ) (bytes : List ℕ) (f : Frame) → entry_in_front epoch number bytes ≡ Some f → (0 < frame_bytes f) × (frame_bytes f ≤ length bytes)
 entry_bytes epoch number bytes f is = (omega arith, front_bytes MAX_ENTRY_BYTES bytes f (kept (is_entry epoch number) (front_of MAX_ENTRY_BYTES bytes) f is).0)
 
 step : (epoch number : ℕ) (bytes : List ℕ) (others : List ℕ → List Frame) (o : Option Frame) → entry_in_front epoch number bytes ≡ o

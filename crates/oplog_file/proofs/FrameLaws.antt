@@ -1,19 +1,18 @@
 -- Frames: what is found at the front is spelled there, and what is spelled there is found.
-use Rattle.std.proofs.Common.{◌≡◌, ℕ, ◌+◌, ◌^◌, ◌<◌, ◌≤◌, Bool, true, false, cond, leb, List, [], ◌∷◌, ◌++◌, length, get_or, take, drop, Option, None, Some, refl, sym, ap, subst, ◌∙◌, append_assoc, length-append, arith, inl, inr}
+use Rattle.std.proofs.Common.{◌≡◌, ℕ, ◌+◌, ◌^◌, ◌<◌, ◌≤◌, Bool, true, false, cond, List, ◌++◌, length, get_or, take, drop, Option, None, Some, refl, sym, ap, subst, ◌∙◌, append_assoc, length-append, arith, inl, inr}
 use Rattle.std.proofs.lemmas.Bool.{cases_lt, leb-true, le-leb, and_parts, and_from}
 use Rattle.std.proofs.lemmas.List.{take_at, drop_at, get_or-drop, get_or-take, get_or_past, length-take, length-take-le, length-drop, drop-drop, take-append-drop}
 use Rattle.std.proofs.lemmas.Nat.{le_bytes_4, le_bytes_8, from_le_bytes-to_le_bytes_4, from_le_bytes-to_le_bytes_8}
 use Rattle.std.proofs.lemmas.Slice.Eq.{bytes_eq-Decides}
 use Rattle.std.specs.Int.{w32, w64, from_le_bytes}
-use Rattle.std.specs.Str.{bytes_eq}
 use Rattle.blake2b_hash.specs.Blake2b.{hash_of}
 use Rattle.blake2b_hash.proofs.Hashes.{length_hash_of}
 use Rattle.compact_enc.specs.Reading.{IsBytes}
 use Rattle.merkle_nodes.specs.Tree.{u64_bytes}
 use Rattle.oplog_file.specs.declared.layout.TheConstants.{FRAME_HEAD_BYTES, CHECK_BYTES}
-use Rattle.oplog_file.specs.Frames.{Frame, u32_bytes, tail_of, check_of, frame_spelling, frame_bytes, FrameFits, BeginsWith, frame_from, is_whole, front_of}
+use Rattle.oplog_file.specs.Frames.{Frame, u32_bytes, tail_of, check_of, frame_spelling, frame_bytes, BeginsWith, frame_from, is_whole, front_of}
 
-abbrev chosen : ℕ → ℕ → List ℕ → List ℕ → Option Frame
+abbrev pub chosen : ℕ → ℕ → List ℕ → List ℕ → Option Frame
 chosen max count bytes tail = cond (is_whole max count bytes tail) (Some (frame_from tail)) None
 
 check_length : (bytes : List ℕ) → length (check_of bytes) ≡ CHECK_BYTES
@@ -85,7 +84,7 @@ abbrev frame_or : Frame → Option Frame → Frame
 frame_or other None = other
 frame_or other (Some f) = f
 
-passed : (b : Bool) (x f : Frame) → cond b (Some x) None ≡ Some f → (b ≡ true) × (x ≡ f)
+pub passed : (b : Bool) (x f : Frame) → cond b (Some x) None ≡ Some f → (b ≡ true) × (x ≡ f)
 passed true x f is = (refl, ap (frame_or x) is)
 passed false x f is = let apart : None ≡ Some f = is in cc
 

@@ -11,7 +11,7 @@ use Rattle.oplog_form.specs.Nodes.{twig_in, nodes_in, roots_in}
 use Rattle.oplog_form.specs.Headers.{header_spelling, header_in}
 use Rattle.oplog_file.specs.Frames.{Frame, frame_spelling, front_of}
 use Rattle.oplog_file.specs.Slots.{header_frame, header_at, is_after}
-use Rattle.oplog_file.specs.Counting.{Count, frames_up_to, entry_in_front}
+use Rattle.oplog_file.specs.Counting.{Count, frames_up_to}
 
 -- ---- frames
 

@@ -7,17 +7,15 @@ use Rattle.oplog_file.specs.Frames.{Frame}
 use Rattle.oplog_file.specs.Slots.{slot_of, header_frame}
 use Rattle.oplog_file.specs.Counting.{entry_frames, bytes_of}
 
--- the epoch of the header that counts, and the frames of the entries that count behind it
+-- the frame of the header that counts, and those of the entries that count behind it
 pub record File : Type 0 where
-  pub epoch : ℕ
+  pub header : Frame
   pub frames : List Frame
 
 -- the area is this file
 pub record IsFile (area : List ℕ) (file : File) : Type 0 where
-  pub header : Frame
-  pub counts : header_frame area ≡ Some header
-  pub epoch : header.epoch ≡ file.epoch
-  pub frames : entry_frames file.epoch area ≡ file.frames
+  pub header_is : header_frame area ≡ Some file.header
+  pub frames_are : entry_frames file.header.epoch area ≡ file.frames
 
 -- where the next entry is written
 abbrev pub end_of : File → ℕ
@@ -25,7 +23,7 @@ end_of file = ENTRIES_AT + bytes_of file.frames
 
 -- the frame of the next entry, with this payload
 abbrev pub next_frame : File → List ℕ → Frame
-next_frame file payload = record { epoch = file.epoch; number = length file.frames + 1; payload = payload }
+next_frame file payload = record { epoch = file.header.epoch; number = length file.frames + 1; payload = payload }
 
 -- the epoch of the next header
 abbrev pub next_epoch : ℕ → ℕ
@@ -33,7 +31,7 @@ next_epoch epoch = (epoch + 1) % 2 ^ 64
 
 -- the frame of the next header, with this payload
 abbrev pub next_header : File → List ℕ → Frame
-next_header file payload = record { epoch = next_epoch file.epoch; number = 0; payload = payload }
+next_header file payload = record { epoch = next_epoch file.header.epoch; number = 0; payload = payload }
 
 -- the frame is that of the header that counts, at this place of the area
 abbrev pub HeaderCounts : List ℕ → ℕ → Frame → Type 0

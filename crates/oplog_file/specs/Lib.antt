@@ -2,3 +2,9 @@ pub mod Frames
 pub mod Slots
 pub mod Counting
 pub mod Files
+pub mod Writers
+pub mod Held
+pub mod Fronts
+pub mod Storing
+pub mod Passing
+pub mod Opening

@@ -1,0 +1,10 @@
+pub mod Opened
+pub mod Following
+pub mod Areas
+pub mod Copying
+pub mod Standing
+pub mod Written
+pub mod InHand
+pub mod Hands
+pub mod Starting
+pub mod Replaying

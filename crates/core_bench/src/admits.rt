@@ -19,6 +19,9 @@ pub(crate) const CHUNK_BLOCKS: u64 = 64;
 // Room for the proof of such a block.
 const OFFER_BYTES: usize = 2048;
 
+// What a core takes for such a block and its nodes, with what the allocator adds.
+const PIECE_BYTES: usize = 1200;
+
 /// The blocks of a log, in the order of their admissions: each so far behind the one before.
 #[derive(Clone, Copy)]
 pub(crate) struct Order {
@@ -37,6 +40,16 @@ impl Order {
 pub(crate) struct Admitted {
     pub times: Times,
     pub parents: u64,
+}
+
+/// Has the memory for so many blocks come from the system now, and not when they are admitted: it is taken in pieces that
+/// are written to and given back, below the one that is handed out. While that stays the allocator keeps them.
+pub(crate) fn memory_of(alloc: Global, blocks: u64) -> Option<Blob> {
+    let mut pieces = Vec::new(alloc);
+    for _ in 0..blocks {
+        pieces.push(Blob::zeros(alloc, PIECE_BYTES).ok()?).ok()?;
+    }
+    pieces.pop()
 }
 
 /// Leads the head of a core to that of a source. Whether it is there.

@@ -3,14 +3,12 @@
 use crate::admits::{BLOCK_BYTES, CHUNK_BLOCKS};
 use crate::appends::BATCH_BLOCKS;
 use crate::times::{Times, since};
-use blake2b_hash::hash256;
+use blake2b_hash::{Blake2b, hash256};
 use std::io;
 use std::time::Instant;
 
-// What is hashed for a leaf of 32 bytes, for one of an admitted block, and for a parent.
+// What is hashed for a leaf of 32 bytes, and for a parent.
 const SHORT_LEAF_BYTES: usize = 41;
-
-const LEAF_BYTES: usize = 9 + BLOCK_BYTES;
 
 const PARENT_BYTES: usize = 73;
 
@@ -65,16 +63,38 @@ fn hash_batch(number: u64, parents: u64) -> u8 {
 
 // The same of a chunk of admitted blocks, with so many parents in all.
 fn hash_chunk(number: u64, parents: u64) -> u8 {
-    let mut leaf = [0; LEAF_BYTES];
+    let mut block = [0; BLOCK_BYTES];
     let mut hash = [0; 32];
     let mut mixed = 0;
     for place in 0..CHUNK_BLOCKS {
         let index = number.wrapping_mul(CHUNK_BLOCKS).wrapping_add(place);
-        leaf[9..17].copy_from_slice(&index.to_le_bytes());
-        hash = hash256(&leaf);
+        block[..8].copy_from_slice(&index.to_le_bytes());
+        hash = hash_leaf(&block);
         mixed ^= hash[0];
     }
-    mixed ^ hash_path(hash, parents)
+    for _ in 0..parents {
+        hash = hash_halves(number, &hash, &hash);
+    }
+    mixed ^ hash[0]
+}
+
+// The hash of a leaf from where its block lies: a type, its bytes' number, and they.
+fn hash_leaf(block: &[u8]) -> [u8; 32] {
+    let mut hasher = Blake2b::new256();
+    hasher.update(&[0]);
+    hasher.update(&(block.len() as u64).to_le_bytes());
+    hasher.update(block);
+    hasher.finalize256()
+}
+
+// The hash of a parent from where the hashes of its halves lie.
+fn hash_halves(size: u64, left: &[u8; 32], right: &[u8; 32]) -> [u8; 32] {
+    let mut hasher = Blake2b::new256();
+    hasher.update(&[1]);
+    hasher.update(&size.to_le_bytes());
+    hasher.update(left);
+    hasher.update(right);
+    hasher.finalize256()
 }
 
 // A byte of the last of so many parents, each of the hash before.

@@ -13,9 +13,9 @@ mod hashes;
 mod offers;
 mod times;
 
-ghost use Rattle.std.specs.Prelude.{◌≡◌, IfOk, length};
+ghost use Rattle.std.specs.Prelude.{◌≡◌, ◌≤◌, IfOk, length};
 
-use crate::admits::{Admitted, BLOCK_BYTES, Order, admit_all, upgrade};
+use crate::admits::{Admitted, BLOCK_BYTES, Order, admit_all, memory_of, upgrade};
 use crate::appends::{BATCH_BLOCKS, append_all, get_all};
 use crate::hashes::{hash_admitted, hash_all};
 use crate::times::Times;
@@ -74,33 +74,44 @@ fn get(rt: &HostRuntime, batches: u64, stride: u64) -> io::Result<Times> {
     get_all(rt, &mut core, batches, stride, place.bytes_mut())
 }
 
+// A new core with the head of a source of so many blocks.
+fn upgraded(
+    alloc: Global,
+    source: &mut MemCore<PlainAuth>,
+    blocks: u32,
+    place: &mut [u8],
+) -> Option<MemCore<PlainAuth>>
+    requires room { MAX_BLOCK_BYTES ≤ length place.old }
+{
+    let mut core = empty(alloc);
+    if upgrade(source, &mut core, alloc, blocks, place) {
+        return Some(core);
+    }
+    None
+}
+
 // Admits the blocks of so many batches, each so many blocks after the one before, and prints what was timed.
 fn admit(rt: &HostRuntime, batches: u64, stride: u64) -> io::Result<()> {
-    let mut source = empty(rt.alloc());
+    let alloc = rt.alloc();
+    let mut source = empty(alloc);
     append_all(rt, &mut source, batches, &mut [0; BLOCK_BYTES])?;
-    let Ok(mut place) = place_of(rt.alloc(), MAX_BLOCK_BYTES) else {
+    let Ok(mut place) = place_of(alloc, MAX_BLOCK_BYTES) else {
         return Ok(());
     };
+    let place = place.bytes_mut();
     let Ok(blocks) = u32::try_from(batches.saturating_mul(BATCH_BLOCKS)) else {
         return Ok(());
     };
-    let mut before = empty(rt.alloc());
-    let mut core = empty(rt.alloc());
-    if !upgrade(
-        &mut source,
-        &mut before,
-        rt.alloc(),
-        blocks,
-        place.bytes_mut(),
-    ) || !upgrade(
-        &mut source,
-        &mut core,
-        rt.alloc(),
-        blocks,
-        place.bytes_mut(),
-    ) {
+    let Some(mut before) = upgraded(alloc, &mut source, blocks, place) else {
         return Ok(());
-    }
+    };
+    let Some(mut core) = upgraded(alloc, &mut source, blocks, place) else {
+        return Ok(());
+    };
+    // both of them take in each block
+    let Some(_above) = memory_of(alloc, blocks as u64 * 2) else {
+        return Ok(());
+    };
     let order = Order { blocks, stride };
     let Admitted { times, parents } = admit_all(
         rt,
@@ -108,7 +119,7 @@ fn admit(rt: &HostRuntime, batches: u64, stride: u64) -> io::Result<()> {
         &mut before,
         &mut core,
         order,
-        place.bytes_mut(),
+        place,
     )?;
     let held = core.info().held;
     println!(rt;

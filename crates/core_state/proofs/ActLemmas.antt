@@ -147,12 +147,12 @@ pub no_tell : (old new : Stored) (fault : CoreFault) → TellsFault (view_of old
 no_tell old new fault tells = no_fault tells.answered
 
 -- a decision over the view of a content in memory
-pub decides : (state seen old : Stored) → state ≡ old → (refusal : Content → Option CoreFault) → (Gives : Stored → Change → Type 0) → (answer : Result Change CoreFault)
+pub decides : {T : Type 0} (state seen old : Stored) → state ≡ old → (refusal : Content → Option CoreFault) → (Gives : Stored → T → Type 0) → (answer : Result T CoreFault)
     → AnswersBy (view_of state) (view_of seen) (refusal (content_of state)) (Gives state) answer → Decides (refusal (content_of old)) (Gives old) answer
-decides state seen old is refusal Gives answer answers =
+decides {T} state seen old is refusal Gives answer answers =
     subst (λ (s : Stored). Decides (refusal (content_of s)) (Gives s) answer) is (by_answer answer answers)
   where
-    by_answer : (given : Result Change CoreFault) → AnswersBy (view_of state) (view_of seen) (refusal (content_of state)) (Gives state) given
+    by_answer : (given : Result T CoreFault) → AnswersBy (view_of state) (view_of seen) (refusal (content_of state)) (Gives state) given
         → Decides (refusal (content_of state)) (Gives state) given
     by_answer (Ok change) gives = gives
     by_answer (Err fault) why = elim why [ inl refused ↦ refused | inr tells ↦ absurd (no_tell state seen fault tells) ]

@@ -64,7 +64,7 @@ module _ (accepts : List ℕ → List ℕ → Bool) (p : Proof) (m : Content) (w
   open_ = unrefused accepts p m none
 
   -- a node that is stored before and with the upgrade in has one value
-  upgrade_stays : (depth offset : ℕ) → is_some (m.node depth offset) ≡ true → is_some (longer.node depth offset) ≡ true
+  pub upgrade_stays : (depth offset : ℕ) → is_some (m.node depth offset) ≡ true → is_some (longer.node depth offset) ≡ true
       → longer.node depth offset ≡ m.node depth offset
   upgrade_stays depth offset old now = ByUpgrade p.upgrade refl
     where
@@ -81,7 +81,7 @@ module _ (accepts : List ℕ → List ℕ → Bool) (p : Proof) (m : Content) (w
           ∙ joined_below m.length m.node known whole.sound.pairs (λ d o below. rw (le-leb (end_block_of d o) m.length below) refl) depth offset within
 
   -- a node that is stored with the upgrade in keeps its value where the block comes in
-  block_stays : (depth offset : ℕ) → is_some (longer.node depth offset) ≡ true → is_some ((admitted p m).node depth offset) ≡ true
+  pub block_stays : (depth offset : ℕ) → is_some (longer.node depth offset) ≡ true → is_some ((admitted p m).node depth offset) ≡ true
       → (admitted p m).node depth offset ≡ longer.node depth offset
   block_stays depth offset before now = ByBlock p.block refl
     where

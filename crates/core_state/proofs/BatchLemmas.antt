@@ -74,7 +74,7 @@ push_limit batch size bytes result total answers = elim (cases_lt MAX_BLOCK_BYTE
 
 -- what was pushed behind a batch, of all blocks
 pub record HasPushed (first : BatchView) (log : List (List ℕ)) (place : ℕ) (batch : BatchView) : Type 0 where
-  pub room : batch.room ≡ length log
+  pub room : batch.room ≡ first.room
   pub base : batch.base ≡ first.base
   pub blocks : batch.blocks ≡ place
   pub total : bytes_under batch.roots ≡ bytes_under first.roots + batch.bytes
@@ -82,9 +82,9 @@ pub record HasPushed (first : BatchView) (log : List (List ℕ)) (place : ℕ) (
   pub limits : limit_in first.base (bytes_under first.roots) 0 0 log
       ≡ limit_in first.base (bytes_under first.roots) place batch.bytes (drop place log)
 
-pub HasPushed-start : (first : BatchView) (log : List (List ℕ)) → first.room ≡ length log → first.blocks ≡ 0 → first.bytes ≡ 0 → HasPushed first log 0 first
-HasPushed-start first log room blocks bytes = record {
-  room = room;
+pub HasPushed-start : (first : BatchView) (log : List (List ℕ)) → first.blocks ≡ 0 → first.bytes ≡ 0 → HasPushed first log 0 first
+HasPushed-start first log blocks bytes = record {
+  room = refl;
   base = refl;
   blocks = blocks;
   total = omega (arith, bytes);

@@ -58,7 +58,8 @@ all_found is_stored (tree ∷ trees) none = elim (cases_Bool (is_stored tree.dep
   | inr lacks ↦ let clash = rw lacks at none in cc
 ]
 
-roots_stored : (m : Content) (to : ℕ) → IsSound m → first_missing (in_closure m.length (held m)) (full_roots_of to) ≡ None → RootsStored to m
+-- the full roots are stored
+pub roots_stored : (m : Content) (to : ℕ) → IsSound m → first_missing (in_closure m.length (held m)) (full_roots_of to) ≡ None → RootsStored to m
 roots_stored m to sound none depth offset root =
     let is = true_root to depth offset root in
     let among = root_among to depth offset is.within is.largest in

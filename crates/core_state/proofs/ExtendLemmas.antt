@@ -76,7 +76,7 @@ module _ (s now : Stored) (grows : HasGrown s now) where
 -- ---- a batch
 
 -- the nodes of subtrees with these values are those at the subtrees
-nodes_are : (values : Values) (trees : List Subtree) (nodes : List Node) → AreNodes values trees nodes
+pub nodes_are : (values : Values) (trees : List Subtree) (nodes : List Node) → AreNodes values trees nodes
     → nodes ≡ map (λ (tree : Subtree). node_at values tree.depth tree.offset) trees
 nodes_are values [] [] are = refl
 nodes_are values [] (node ∷ nodes) are = let clash : Some node ∷ map Some nodes ≡ [] = are in cc

@@ -9,14 +9,14 @@ use Rattle.node_set.specs.Tables.{Parts, shown}
 use Rattle.node_set.specs.Views.{ViewState}
 use Rattle.core_state.specs.States.{CoreState}
 
--- a head, places for held indices, nodes and blocks, the roots and their hash; for how many blocks memory is taken, and of how many
--- bytes the place of one that is to come in is, if there is one
+-- a head, places for held indices, nodes and blocks, the roots and their hash; for how many blocks memory is taken, and what lies
+-- in the place of one that is to come in, if there is one
 pub record Stored : Type 0 where
   pub parts : Parts
   pub roots : List Node
   pub root : List ℕ
   pub room : ℕ
-  pub spare : Option ℕ
+  pub spare : Option (List ℕ)
 
 -- the content that they show
 abbrev pub content_of : Stored → Content

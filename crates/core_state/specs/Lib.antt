@@ -10,3 +10,4 @@ pub mod Stores
 pub mod Batches
 pub mod Turns
 pub mod Reserves
+pub mod Handing

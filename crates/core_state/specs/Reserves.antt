@@ -1,5 +1,5 @@
 -- Memory that is taken for what a proof brings, and how its block comes in.
-use Rattle.std.specs.Prelude.{◌≡◌, ℕ, Bool, true, false, ◌≤◌, ◌||◌, List, length, Option, None, Some, IfSome, is_some, nat_eq, slice_set, if◌then◌else◌}
+use Rattle.std.specs.Prelude.{◌≡◌, ℕ, Bool, true, false, ◌≤◌, ◌||◌, List, length, Option, None, Some, IfSome, is_some, nat_eq, option_map, slice_set, if◌then◌else◌}
 use Rattle.std.specs.List.{AllByRecursion}
 use Rattle.flat_tree.specs.Subtrees.{number}
 use Rattle.bit_field.specs.Places.{has}
@@ -14,8 +14,12 @@ use Rattle.proof_check.specs.Admission.{IsServed, stays}
 use Rattle.core_state.specs.InMemory.{Stored, content_of}
 
 -- there is a place for the block's bytes, unless it is held
-abbrev pub HasSpare : (ℕ → Bool) → Option ℕ → Option Block → Type 0
-HasSpare held spare block = IfSome block (λ b. held b.index ≡ false → spare ≡ Some (length b.bytes))
+abbrev pub HasSpare : (ℕ → Bool) → Option (List ℕ) → Option Block → Type 0
+HasSpare held spare block = IfSome block (λ b. held b.index ≡ false → option_map (λ (bytes : List ℕ). length bytes) spare ≡ Some (length b.bytes))
+
+-- they lie in it, unless it is held
+abbrev pub HasBytes : (ℕ → Bool) → Option (List ℕ) → Option Block → Type 0
+HasBytes held spare block = IfSome block (λ b. held b.index ≡ false → spare ≡ Some b.bytes)
 
 -- there are places for the held indices and the blocks up to the new length, for each node that comes in, and for the block
 pub record HasRoom (s : Stored) (p : Proof) : Type 0 where

@@ -1,5 +1,5 @@
 -- A content in memory as its parts.
-use Rattle.std.specs.Prelude.{ℕ, List, length, option_map, vec_capacity}
+use Rattle.std.specs.Prelude.{vec_capacity}
 use Rattle.core_state.specs.declared.stored.MemState.TheInside.{Inside}
 use Rattle.core_state.specs.InMemory.{Stored}
 
@@ -10,5 +10,5 @@ stored_of inside = record {
   roots = inside.roots;
   root = inside.root;
   room = vec_capacity inside.blocks;
-  spare = option_map (λ (bytes : List ℕ). length bytes) inside.spare;
+  spare = inside.spare;
 }

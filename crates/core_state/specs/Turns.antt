@@ -25,17 +25,17 @@ pub record Turns (accepts : List ℕ → List ℕ → Bool) (m : Content) (event
   pub whole : IsWhole accepts m → IsWhole accepts after
 
 -- a change is refused, or it is one of these
-abbrev pub Decides : Option CoreFault → (Change → Type 0) → Result Change CoreFault → Type 0
+abbrev pub Decides : {T : Type 0} → Option CoreFault → (T → Type 0) → Result T CoreFault → Type 0
 Decides refusal Gives (Ok change) = (refusal ≡ None) × Gives change
 Decides refusal Gives (Err fault) = refusal ≡ Some fault
 
 -- a proof that is judged is refused, or it makes a change; so far an upgrade under a greater fork is refused
-pub record Judged (accepts : List ℕ → List ℕ → Bool) (m : Content) (p : Proof) (answer : Result Change CoreFault) : Type 0 where
-  pub served : IsServed p m → Decides (refused (refusal_of accepts p m)) (IsAdmission p m) answer
+pub record Judged (accepts : List ℕ → List ℕ → Bool) (m : Content) (p : Proof) (change : Change) (answer : Result (Unit {0}) CoreFault) : Type 0 where
+  pub served : IsServed p m → Decides (refused (refusal_of accepts p m)) (λ _. IsAdmission p m change) answer
   pub new_fork : m.fork < p.fork → IsSome p.upgrade → answer ≡ Err (Refused (NewFork m.fork))
   pub fits : ProofFits p
-  pub few : IfOk answer (λ (change : Change). change.head.length ≤ MAX_BLOCKS)
-  pub same : IfOk answer (λ (change : Change). p.upgrade ≡ None → change.roots ≡ roots m)
+  pub few : IfOk answer (λ _. change.head.length ≤ MAX_BLOCKS)
+  pub same : IfOk answer (λ _. p.upgrade ≡ None → change.roots ≡ roots m)
   pub other : answer ≢ Err Memory
 
 -- the change is that of a proof which a whole content admits

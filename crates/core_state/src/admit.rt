@@ -1,5 +1,5 @@
 //! What a proof brings to a content in memory.
-ghost use Rattle.std.specs.Prelude.{◌≡◌, ◌≢◌, ◌↔◌, ◌≤◌, ◌<◌, ◌++◌, ◌-◌, ℕ, List, [], true, Err, None, Some, IfSome, IsOk, IsTrue, OnOk, length, option_map, replicate, vec_capacity};
+ghost use Rattle.std.specs.Prelude.{◌≡◌, ◌≢◌, ◌↔◌, ◌≤◌, ◌<◌, ◌++◌, ◌-◌, ℕ, List, [], true, Err, None, Some, IfOk, IfSome, IsOk, IsTrue, OnOk, length, option_map, replicate, vec_capacity};
 ghost use Rattle.std.specs.List.{AllByRecursion};
 ghost use Rattle.flat_tree.specs.declared.limits.TheConstants.{MAX_BLOCKS};
 ghost use Rattle.bit_field.specs.Places.{has};
@@ -14,25 +14,26 @@ ghost use Rattle.proof_check.specs.Admission.{IsPlain};
 ghost use Rattle.core_state.specs.Events.{Admit};
 ghost use Rattle.core_state.specs.InMemory.{content_of};
 ghost use Rattle.core_state.specs.Turns.{Turns, Judged, Brings};
-ghost use Rattle.core_state.specs.Reserves.{IsReserved, HasSpare, Suffices, blocks_put, held_put};
+ghost use Rattle.core_state.specs.Reserves.{IsReserved, HasSpare, HasBytes, Suffices, blocks_put, held_put};
 
 use crate::append::make_places;
 use crate::stored::MemState;
 use bit_field::Bits;
-use merkle_nodes::root_hash;
+use merkle_nodes::{Roots, root_hash};
 use node_set::{Change, CoreFault, Nodes, Receipt};
 use outside_traits::{Blob, Memory, Verifier};
-use proof_check::{Prepared, judge};
+use proof_check::{Prepared, judge_into};
 use proof_form::BlockPart;
 use std::alloc::Global;
 
 impl MemState {
-    /// Takes in what a proof brings, if it isn't refused. Without memory the content is as it was.
+    /// Takes in what a proof brings, if it isn't refused, with a place for the change. Without memory the content is as it was.
     pub(crate) fn admit<A: Verifier>(
         &mut self,
         alloc: Global,
         prepared: &Prepared<'_>,
         verifier: &A,
+        change: &mut Change,
     ) -> Result<Receipt, CoreFault>
         requires plain { IsPlain prepared.now }
         requires whole { IsWhole (A.accepts verifier.now) (content_of self.old) }
@@ -40,15 +41,15 @@ impl MemState {
             (content_of self.new) result }
         ensures reserved { IsReserved (A.accepts verifier.now) self.old prepared.now → result ≢ Err MemoryFault }
     {
-        let change = match self.judged(prepared, verifier) {
-            Ok(change) => change,
-            Err(fault) => return Err(fault),
-        };
-        match self.make_room(alloc, prepared.block(), &change) {
+        match self.judged(prepared, verifier, change) {
             Ok(()) => {}
-            Err(Memory) => return Err(CoreFault::Memory),
+            Err(fault) => return Err(fault),
         }
-        self.take_in(alloc, prepared, &change);
+        let is_in = match self.make_room(alloc, prepared.block(), change) {
+            Ok(is_in) => is_in,
+            Err(Memory) => return Err(CoreFault::Memory),
+        };
+        self.take_in(alloc, prepared, change, is_in);
         Ok(self.receipt(change.commit))
     }
 
@@ -57,63 +58,76 @@ impl MemState {
         &self,
         prepared: &Prepared<'_>,
         verifier: &A,
-    ) -> Result<Change, CoreFault>
+        change: &mut Change,
+    ) -> Result<(), CoreFault>
         requires plain { IsPlain prepared.now }
-        ensures { Judged (A.accepts verifier.now) (content_of self.now) prepared.now result }
+        ensures { Judged (A.accepts verifier.now) (content_of self.now) prepared.now change.new result }
     {
         // it is within its ranges
         let _proof = prepared.proof();
-        judge(&mut self.view(), verifier, prepared)
+        judge_into(&mut self.view(), verifier, prepared, change)
     }
 
-    /// Takes all memory that an admission of a proof wants, unless it is refused.
+    /// Takes all memory that an admission of a proof wants, unless it is refused, with a place for the change.
     pub(crate) fn reserve<A: Verifier>(
         &mut self,
         alloc: Global,
         prepared: &Prepared<'_>,
         verifier: &A,
+        change: &mut Change,
     ) -> Result<(), Memory>
         requires plain { IsPlain prepared.now }
         requires whole { IsWhole (A.accepts verifier.now) (content_of self.old) }
         ensures reserved { OnOk result (IsReserved (A.accepts verifier.now) self.new prepared.now) }
         ensures content { content_of self.new ≡ content_of self.old }
     {
-        let change = match self.judged(prepared, verifier) {
-            Ok(change) => change,
+        match self.judged(prepared, verifier, change) {
+            Ok(()) => {}
             Err(_) => return Ok(()),
-        };
-        self.make_room(alloc, prepared.block(), &change)
+        }
+        match self.make_room(alloc, prepared.block(), change) {
+            Ok(_) => Ok(()),
+            Err(Memory) => Err(Memory),
+        }
     }
 
-    // Takes the memory that a change wants, and the block that it brings. What is there suffices where it does.
+    // Takes the memory that a change wants, and the block that it brings. What is there suffices where it does. Whether
+    // the block lies in its place already.
     fn make_room(
         &mut self,
         alloc: Global,
         block: &Option<BlockPart<'_>>,
         change: &Change,
-    ) -> Result<(), Memory>
+    ) -> Result<bool, Memory>
         requires few { change.now.head.length ≤ MAX_BLOCKS }
         ensures ok { OnOk result (Suffices self.new (block_view block.now) change.now) }
+        ensures bytes { IfOk result (λ is_in. is_in ≡ true
+            → HasBytes (has self.new.parts.held) self.new.spare (block_view block.now)) }
         ensures idle { Suffices self.old (block_view block.now) change.now → IsOk result }
         ensures content { content_of self.new ≡ content_of self.old }
     {
-        match make_spare(alloc, &mut self.spare, &self.held, block) {
-            Ok(()) => {}
+        let is_in = match make_spare(alloc, &mut self.spare, &self.held, block) {
+            Ok(is_in) => is_in,
             Err(Memory) => return Err(Memory),
-        }
-        take_room(
+        };
+        match take_room(
             alloc,
             &mut self.held,
             &mut self.nodes,
             &mut self.blocks,
             change,
-        )
+        ) {
+            Ok(()) => {}
+            Err(Memory) => return Err(Memory),
+        }
+        Ok(is_in)
     }
 
     // Puts in what a change brings. Takes no memory.
-    fn take_in(&mut self, alloc: Global, prepared: &Prepared<'_>, change: &Change)
+    fn take_in(&mut self, alloc: Global, prepared: &Prepared<'_>, change: &Change, is_in: bool)
         requires brings { Brings prepared.now (content_of self.old) change.now }
         requires room { Suffices self.old prepared.now.block change.now }
+        requires bytes { is_in ≡ true → HasBytes (has self.old.parts.held) self.old.spare prepared.now.block }
         ensures { content_of self.new ≡ admitted prepared.now (content_of self.old) }
     {
         let length = change.head.length;
@@ -124,11 +138,20 @@ impl MemState {
             &mut self.blocks,
             &mut self.spare,
             prepared.block(),
+            is_in,
         );
         self.root = root_after(prepared, change, &self.root);
-        self.roots = change.roots.copy();
+        put_roots(&mut self.roots, &change.roots);
         self.head = change.head;
     }
+}
+
+// Puts some roots into the place of others.
+fn put_roots(place: &mut Roots, roots: &Roots)
+    ensures { place.new ≡ roots.now }
+{
+    place.clear();
+    place.extend(roots.as_slice());
 }
 
 // The root hash after a change: a block alone doesn't change it.
@@ -190,32 +213,30 @@ fn reserve_up_to(blocks: &mut Vec<Blob>, count: usize) -> Result<(), Memory>
     }
 }
 
-// Makes a place for the bytes of a block, unless it is held.
+// Makes a place for the bytes of a block, unless it is held. Whether they lie in it already.
 fn make_spare(
     alloc: Global,
     spare: &mut Option<Blob>,
     held: &Bits,
     block: &Option<BlockPart<'_>>,
-) -> Result<(), Memory>
-    ensures ok { OnOk result (HasSpare (has held.now)
-        (option_map (λ (bytes : List ℕ). length bytes) spare.new) (block_view block.now)) }
-    ensures idle { HasSpare (has held.now) (option_map (λ (bytes : List ℕ). length bytes) spare.old)
-        (block_view block.now) → IsOk result }
+) -> Result<bool, Memory>
+    ensures ok { OnOk result (HasSpare (has held.now) spare.new (block_view block.now)) }
+    ensures bytes { IfOk result (λ is_in. is_in ≡ true → HasBytes (has held.now) spare.new (block_view block.now)) }
+    ensures idle { HasSpare (has held.now) spare.old (block_view block.now) → IsOk result }
 {
     let Some(part) = block else {
-        return Ok(());
+        return Ok(false);
     };
     if part.index < held.places() && held.get(part.index) {
-        return Ok(());
+        return Ok(false);
     }
-    let len = part.bytes.len();
-    if has_len(spare, len) {
-        return Ok(());
+    if has_len(spare, part.bytes.len()) {
+        return Ok(false);
     }
-    match Blob::zeros(alloc, len) {
+    match Blob::from_slice(alloc, part.bytes) {
         Ok(place) => {
             *spare = Some(place);
-            Ok(())
+            Ok(true)
         }
         Err(Memory) => Err(Memory),
     }
@@ -245,17 +266,18 @@ fn fill_up(alloc: Global, blocks: &mut Vec<Blob>, count: usize)
     }
 }
 
-// Puts a block in its place, unless it is held.
+// Puts a block in its place, unless it is held, where its bytes may lie already.
 fn put_block(
     held: &mut Bits,
     blocks: &mut Vec<Blob>,
     spare: &mut Option<Blob>,
     block: &Option<BlockPart<'_>>,
+    is_in: bool,
 )
     requires within { IfSome (block_view block.now) (λ b. b.index < length held.old) }
     requires there { IfSome (block_view block.now) (λ b. b.index < length blocks.old.items) }
-    requires spare { HasSpare (has held.old) (option_map (λ (bytes : List ℕ). length bytes) spare.old)
-        (block_view block.now) }
+    requires spare { HasSpare (has held.old) spare.old (block_view block.now) }
+    requires bytes { is_in ≡ true → HasBytes (has held.old) spare.old (block_view block.now) }
     ensures places { length held.new ≡ length held.old }
     ensures held { (index : ℕ) → has held.new index ≡ held_put (has held.old) (block_view block.now) index }
     ensures blocks { blocks.new.items ≡ blocks_put (has held.old) (block_view block.now) blocks.old.items }
@@ -266,10 +288,24 @@ fn put_block(
     if held.get(part.index) {
         return;
     }
-    let Some(mut place) = spare.take() else {
+    let Some(place) = spare.take() else {
         return;
     };
-    place.bytes_mut().copy_from_slice(part.bytes);
+    let place = filled(place, part.bytes, is_in);
     blocks[part.index as usize] = place;
     held.set_range(part.index, part.index + 1);
+}
+
+// A place with a block's bytes in it, where they may lie already.
+fn filled(place: Blob, bytes: &[u8], is_in: bool) -> Blob
+    requires len { length place ≡ length bytes.now }
+    requires bytes { is_in ≡ true → place ≡ bytes.now }
+    ensures { result ≡ bytes.now }
+{
+    if is_in {
+        return place;
+    }
+    let mut place = place;
+    place.bytes_mut().copy_from_slice(bytes);
+    place
 }

@@ -1,6 +1,7 @@
 //! Blocks that come in at the end of a content in memory.
-ghost use Rattle.std.specs.Prelude.{◌≡◌, ◌<◌, ◌≤◌, ◌+◌, ◌++◌, ℕ, List, [], true, length, IsOk, OnOk, OnErr};
+ghost use Rattle.std.specs.Prelude.{◌≡◌, ◌<◌, ◌≤◌, ◌+◌, ◌++◌, ◌⊎◌, ℕ, List, [], true, length, IsOk, OnOk, OnErr};
 ghost use Rattle.std.specs.List.{AllByRecursion};
+ghost use Rattle.flat_tree.specs.declared.limits.TheConstants.{MAX_BATCH_BLOCKS};
 ghost use Rattle.bit_field.specs.Places.{has};
 ghost use Rattle.bit_field.specs.declared.bits.TheConstants.{MAX_PLACES};
 ghost use Rattle.merkle_nodes.specs.declared.node.Node.{Node};
@@ -107,14 +108,16 @@ impl MemState {
     }
 }
 
-// Pushes each block, up to the first that passes a limit.
-fn push_all(batch: &mut Batch, blocks: &Blobs) -> Result<(), Limit>
-    requires room { batch.old.room ≡ length blocks.now }
+/// Pushes each block into an empty batch with room for all of them, or for as many as one append adds, up to the first that
+/// passes a limit.
+pub fn push_all(batch: &mut Batch, blocks: &Blobs) -> Result<(), Limit>
+    requires room { (length blocks.now ≤ batch.old.room) ⊎ (MAX_BATCH_BLOCKS ≤ batch.old.room) }
     requires empty { batch.old.blocks ≡ 0 }
     requires no_bytes { batch.old.bytes ≡ 0 }
     ensures limit { limit_fault result
         ≡ limit_in batch.old.base (bytes_under batch.old.roots) 0 0 blocks.now }
     ensures base { batch.new.base ≡ batch.old.base }
+    ensures room { batch.new.room ≡ batch.old.room }
     ensures held { OnOk result ((known : Values) → HasBlocks known [] batch.old
         → HasBlocks known blocks.now batch.new) }
 {

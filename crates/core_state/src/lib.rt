@@ -13,6 +13,7 @@ mod cut;
 mod event;
 mod log_core;
 mod mem_core;
+mod open_core;
 #[cfg(test)]
 mod play_tests;
 mod playing;
@@ -21,7 +22,10 @@ mod stored;
 mod tests;
 
 pub use acting::act;
+pub use append::push_all;
 pub use event::{Event, Reply};
 pub use log_core::Core;
 pub use mem_core::MemCore;
+pub use open_core::OpenCore;
 pub use playing::{Kept, Replies, Step, Steps, play, status};
+pub use stored::signature_of;

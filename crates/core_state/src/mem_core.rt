@@ -10,9 +10,9 @@ use crate::stored::MemState;
 use bit_field::PAGE_BYTES;
 use core_snap::{ReadAt, read_held};
 use merkle_nodes::{Head, Info, Node, Roots};
-use node_set::{CoreFault, Receipt, View};
+use node_set::{Change, CoreFault, Receipt, View};
 use outside_traits::{Blobs, Memory, Signer};
-use proof_check::Prepared;
+use proof_check::{Prepared, no_change};
 use proof_form::{Proof, Request};
 use std::alloc::Global;
 use std::marker::Model;
@@ -22,6 +22,8 @@ use std::marker::Model;
 pub struct MemCore<A: Signer> {
     state: MemState,
     auth: A,
+    // A place for the change of an admission, which none of them clears.
+    change: Change,
 }
 
 impl<A: Signer> Model for MemCore<A> {
@@ -44,6 +46,7 @@ impl<A: Signer> MemCore<A> {
         MemCore {
             state: MemState::new(alloc),
             auth,
+            change: no_change(),
         }
     }
 
@@ -55,7 +58,8 @@ impl<A: Signer> MemCore<A> {
         ensures content { content_of self.new.stored ≡ content_of self.old.stored }
         ensures auth { self.new.auth ≡ self.old.auth }
     {
-        self.state.reserve(alloc, prepared, &self.auth)
+        self.state
+            .reserve(alloc, prepared, &self.auth, &mut self.change)
     }
 }
 
@@ -113,7 +117,8 @@ impl<A: Signer> Core for MemCore<A> {
     }
 
     fn admit(&mut self, alloc: Global, prepared: &Prepared<'_>) -> Result<Receipt, CoreFault> {
-        self.state.admit(alloc, prepared, &self.auth)
+        self.state
+            .admit(alloc, prepared, &self.auth, &mut self.change)
     }
 
     fn make<'b>(&mut self, request: &Request, buf: &'b mut [u8]) -> Result<Proof<'b>, CoreFault> {

@@ -169,7 +169,7 @@ pub(crate) struct MemView<'a> {
 }
 
 /// The signature of a head over the roots with this root hash.
-pub(crate) fn signature_of<A: Signer>(auth: &A, root: &[u8; 32], length: u64, fork: u64) -> [u8; 64]
+pub fn signature_of<A: Signer>(auth: &A, root: &[u8; 32], length: u64, fork: u64) -> [u8; 64]
     ensures accepted { IsTrue (A.accepts auth.now (signed_text root.now length fork) result) }
     ensures wide { count result ≡ 64 }
 {

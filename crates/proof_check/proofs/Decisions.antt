@@ -1,6 +1,6 @@
 -- The refusals in their order: those by numbers first, then those by a node or the signature.
 use Rattle.std.proofs.Common.{◌≡◌, ℕ, Bool, true, false, ◌+◌, ◌<◌, ◌≤◌, inl, inr, List, length, Option, Some, None, refl, sym, ap, subst, ◌∙◌, arith, nat_lt, nat_le, nat_eq}
-use Rattle.std.specs.Prelude.{is_none, ◌&&◌, not}
+use Rattle.std.specs.Prelude.{is_none, ◌&&◌, not, Result}
 use Rattle.std.specs.Option.{IfSome, IsSome}
 use Rattle.std.proofs.lemmas.Bool.{cases_lt, cases_eq, lt-ltb, le-ltb, le-leb, eq-eqb, ne_eqb}
 use Rattle.flat_tree.specs.Covers.{cover_of}
@@ -10,17 +10,19 @@ use Rattle.flat_tree.proofs.NumberLemmas.{leaf}
 use Rattle.merkle_nodes.specs.declared.limit.What.TheVariants.{Blocks, Bytes}
 use Rattle.proof_form.specs.declared.proof.UpgradePart.{UpgradePart}
 use Rattle.proof_form.specs.Proofs.{Proof, Block, UpgradeFits, ProofFits}
+use Rattle.node_set.specs.declared.fault.CoreFault.{CoreFault}
 use Rattle.node_set.specs.declared.fault.Refusal.{Refusal}
 use Rattle.node_set.specs.declared.fault.Refusal.TheVariants.{Limit, OutOfRange, NotLonger, WrongStart, OldFork, NewFork}
 use Rattle.node_set.specs.Contents.{Content, roots, bytes_under}
 use Rattle.node_set.specs.Whole.{IsSound}
 use Rattle.node_set.specs.Changes.{upgrade_content}
 use Rattle.node_set.specs.Refuses.{or_else, refuse_if}
+use Rattle.node_set.specs.Views.{ViewState, AnswersBy}
 use Rattle.proof_check.specs.Upgraded.{with_upgrade, length_after}
 use Rattle.proof_check.specs.Parts.{Part, of_part, part_of_block, range_refusal, differs_refusal, uncovered_refusal}
 use Rattle.proof_check.specs.Judge.{head_refusal, fork_refusal, longer_refusal, start_refusal, due_start, limit_refusal, each_part, signature_refusal, seek_refusal, refusal_of}
 use Rattle.proof_check.specs.Early.{twig_bytes, limits_refusal, early_refusal}
-use Rattle.proof_check.specs.Admission.{IsPlain, IsServed}
+use Rattle.proof_check.specs.Admission.{IsPlain, IsServed, refused}
 use Rattle.proof_check.specs.Meets.{block_refusal}
 use Rattle.proof_check.specs.Reaching.{IfPart, IsDue, IsDueUpgrade}
 use Rattle.proof_check.specs.Settling.{fork_upgrade_refusal, late_refusal}
@@ -28,7 +30,7 @@ use Rattle.proof_check.proofs.UpgradeValues.{upgraded_bytes}
 
 -- ---- chains
 
-or_else-none : {A : Type 0} (x : Option A) → or_else x None ≡ x
+pub or_else-none : {A : Type 0} (x : Option A) → or_else x None ≡ x
 or_else-none (Some a) = refl
 or_else-none None = refl
 
@@ -288,3 +290,18 @@ late_answer accepts p m answer judged early late = full_refusal accepts p m judg
 pub fork_answer : (p : Proof) (m : Content) (answer : Option Refusal) → m.fork < p.fork → IsSome p.upgrade
     → answer ≡ or_else (fork_upgrade_refusal p m) (early_refusal p m (bytes_under (roots m))) → answer ≡ Some (NewFork m.fork)
 fork_answer p m answer newer some is = is ∙ ap (λ r. or_else r (early_refusal p m (bytes_under (roots m)))) (forked p m newer some)
+
+-- what is answered by what was read is answered in all
+pub late_answers : {T : Type 0} (accepts : List ℕ → List ℕ → Bool) (p q : Proof) (m : Content) (old new : ViewState) (Gives : Proof → T → Type 0) (result : Result T CoreFault)
+    → p ≡ q → IsJudged p m → early_refusal p m (bytes_under (roots m)) ≡ None → AnswersBy old new (refused (late_refusal accepts p m)) (Gives p) result
+    → AnswersBy old new (refused (refusal_of accepts q m)) (Gives q) result
+late_answers accepts p q m old new Gives result same judged early answers =
+    subst (λ (o : Proof). AnswersBy old new (refused (refusal_of accepts o m)) (Gives o) result) same
+    (subst (λ (r : Option Refusal). AnswersBy old new (refused r) (Gives p) result) (sym (late_answer accepts p m _ judged early refl)) answers)
+
+-- an upgrade under a greater fork isn't among what isn't refused
+pub never_forked : (p q : Proof) (m : Content) → p ≡ q → fork_upgrade_refusal p m ≡ None → m.fork < q.fork → IsSome q.upgrade → ⊥
+never_forked p q m same none newer some =
+    let is = forked p m (subst (λ (o : Proof). m.fork < o.fork) (sym same) newer) (subst (λ (o : Proof). IsSome o.upgrade) (sym same) some) in
+    let clash : Some (NewFork m.fork) ≡ None = sym is ∙ none in
+    cc

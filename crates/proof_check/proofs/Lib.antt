@@ -19,3 +19,4 @@ pub mod Grown
 pub mod AfterUpgrade
 pub mod Admitting
 pub mod Decisions
+pub mod PlainFetch

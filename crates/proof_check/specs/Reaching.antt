@@ -115,11 +115,15 @@ pub record ReachesBlock (base to : ℕ) (held : ℕ → Bool) (index : ℕ) (joi
   pub met : IsMet reach.met (λ met. IsFirstStored to held index met.level × (met.level ≤ MAX_SIBLINGS))
   pub incoming : reach.incoming ≡ (if held index then None else Some index)
 
--- a proof with what it reaches of a content under this head
-pub record IsGround (p : Proof) (m : Content) (head : Head) (reach : Reach) : Type 0 where
+-- a proof that no number forbids, of a content under this head
+pub record IsOpen (p : Proof) (m : Content) (head : Head) : Type 0 where
   pub fork : head.fork ≡ m.fork
   pub length : head.length ≡ m.length
   pub signature : head.signature ≡ m.signature
   pub usable : IsUsable m
   pub due : IsDue p m (bytes_under (roots m))
+
+-- with what it reaches
+pub record IsGround (p : Proof) (m : Content) (head : Head) (reach : Reach) : Type 0 where
+  pub is_open : IsOpen p m head
   pub reaches : IsReach p m reach

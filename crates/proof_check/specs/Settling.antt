@@ -26,10 +26,10 @@ abbrev pub late_refusal : (List ℕ → List ℕ → Bool) → Proof → Content
 late_refusal accepts p m =
     or_else (of_part p.block (block_refusal (with_upgrade p m))) (signature_refusal accepts p (with_upgrade p m))
 
--- a decision: the refusal that holds, or the change
-abbrev pub Settles : (List ℕ → List ℕ → Bool) → Proof → Content → Result Change Refusal → Type 0
-Settles accepts p m (Ok change) = (late_refusal accepts p m ≡ None) × IsAdmission p m change
-Settles accepts p m (Err refusal) = late_refusal accepts p m ≡ Some refusal
+-- a decision: the refusal that holds, or the change is made
+abbrev pub Settles : (List ℕ → List ℕ → Bool) → Proof → Content → Change → Result (Unit {0}) Refusal → Type 0
+Settles accepts p m change (Ok _) = (late_refusal accepts p m ≡ None) × IsAdmission p m change
+Settles accepts p m change (Err refusal) = late_refusal accepts p m ≡ Some refusal
 
 -- the commit of an upgrade, if there is one, and of the block that comes in, under the head's fork
 abbrev pub commit_with : Option UpgradePart → Option ℕ → Option Commit

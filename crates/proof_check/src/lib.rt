@@ -2,6 +2,7 @@
 #![tactic(auto)]
 
 mod block;
+mod fetching;
 mod fresh;
 mod heads;
 mod held;
@@ -16,6 +17,6 @@ mod settle;
 mod tests;
 mod upgrade;
 
-pub use judging::judge;
+pub use judging::{judge, judge_into, no_change};
 pub use laws::{admitted_stays_whole, covering_proofs_are_admitted};
 pub use prepared::{Prepared, prepare};

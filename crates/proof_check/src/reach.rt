@@ -120,8 +120,8 @@ fn reach_block<V: View>(
     })
 }
 
-// The index of a block that isn't held.
-fn incoming<V: View>(view: &V, index: u64) -> Option<u64>
+/// The index of a block that isn't held.
+pub(crate) fn incoming<V: View>(view: &V, index: u64) -> Option<u64>
     ensures { let m = (V.view view.now).content in
         result ≡ (if held m index then None else Some index) }
 {

@@ -19,25 +19,26 @@ use crate::path::Met;
 use crate::reach::Reach;
 use crate::upgrade::put_joined;
 use commit_book::Commit;
-use merkle_nodes::{Head, Node, Roots, root_hash, signable};
+use merkle_nodes::{Head, Roots, root_hash, signable};
 use node_set::{Change, Fresh, Refusal};
 use outside_traits::Verifier;
 use proof_form::{BlockPart, Proof, UpgradePart};
 
-/// Decides on a proof: the first refusal by a stored node or by the verifier, or the change. A change is handed out
-/// only once the verifier has accepted its head.
+/// Decides on a proof: the first refusal by a stored node or by the verifier, or the change, which it puts into a place.
+/// A change is told only once the verifier has accepted its head.
 pub(crate) fn settle<A: Verifier>(
     verifier: &A,
     proof: &Proof<'_>,
     head: &Head,
     reach: Reach,
-) -> Result<Change, Refusal>
+    change: &mut Change,
+) -> Result<(), Refusal>
     requires fits { ProofFits (view proof.now) }
     requires ground { (m : Content) × IsGround (view proof.now) m head.now reach }
     ensures settles { (m : Content) → IsGround (view proof.now) m head.now reach → IsSound m
-        → HasReach (view proof.now) m reach → Settles (A.accepts verifier.now) (view proof.now) m result }
+        → HasReach (view proof.now) m reach → Settles (A.accepts verifier.now) (view proof.now) m change.new result }
     ensures legal { (m : Content) → IsGround (view proof.now) m head.now reach
-        → IfOk result (IsLegalChange (view proof.now) m) }
+        → IfOk result (λ _. IsLegalChange (view proof.now) m change.new) }
 {
     let Reach {
         joined,
@@ -45,20 +46,18 @@ pub(crate) fn settle<A: Verifier>(
         met,
         incoming,
     } = reach;
-    let mut fresh = Fresh::new(Node::BLANK);
-    put_joined(&mut fresh, &joined, head.length, first);
-    if let Some(refusal) = refused_part(&proof.block, met, &mut fresh) {
+    change.fresh.clear();
+    put_joined(&mut change.fresh, &joined, head.length, first);
+    if let Some(refusal) = refused_part(&proof.block, met, &mut change.fresh) {
         return Err(refusal);
     }
     if let Some(refusal) = refused_head(verifier, &proof.upgrade, head.fork, &joined.roots) {
         return Err(refusal);
     }
-    Ok(Change {
-        head: head_with(&proof.upgrade, head),
-        roots: joined.roots,
-        commit: commit_for(&proof.upgrade, incoming),
-        fresh,
-    })
+    change.head = head_with(&proof.upgrade, head);
+    change.roots = joined.roots;
+    change.commit = commit_for(&proof.upgrade, incoming);
+    Ok(())
 }
 
 // Why a block that is there is refused by the stored node that its path meets. Where it isn't, its path below comes in.
@@ -135,7 +134,8 @@ fn commit_for(upgrade: &Option<UpgradePart>, incoming: Option<u64>) -> Option<Co
     }
 }
 
-fn fetch(incoming: Option<u64>) -> Option<Commit>
+/// The commit of a block that comes in, if one does.
+pub(crate) fn fetch(incoming: Option<u64>) -> Option<Commit>
     ensures { result ≡ commit_with None incoming }
 {
     match incoming {

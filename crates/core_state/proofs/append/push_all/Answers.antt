@@ -3,7 +3,7 @@ use Rattle.core_state.proofs.BatchLemmas.{HasPushed-start, HasPushed-step, refus
 use Rattle.core_state.proofs.append.push_all.Goals as goal
 
 pub loop-place-init : goal.loop-place-init
-loop-place-init c = HasPushed-start c.args.batch.now c.args.blocks.now c.requires.room c.requires.empty c.requires.no_bytes
+loop-place-init c = HasPushed-start c.args.batch.now c.args.blocks.now c.requires.empty c.requires.no_bytes
 
 pub returns-in-Err-clause-limit : goal.returns-in-Err-clause-limit
 returns-in-Err-clause-limit c =

@@ -16,7 +16,18 @@ invariant_of-self-2 c = grown_kept _ _ (record {
   blocks = c.take_room.ensures.blocks;
 }) c.self.invariant
 
-pub returns-clause-idle : goal.returns-clause-idle
-returns-clause-idle c suffices =
+pub invariant_of-self-in-Err-take_room : goal.invariant_of-self-in-Err-take_room
+invariant_of-self-in-Err-take_room c = grown_kept _ _ (record {
+  head = refl;
+  roots = refl;
+  root = refl;
+  more = c.take_room.ensures.more;
+  held = c.take_room.ensures.held;
+  values = c.take_room.ensures.values;
+  blocks = c.take_room.ensures.blocks;
+}) c.self.invariant
+
+pub returns-in-Err-take_room-clause-idle : goal.returns-in-Err-take_room-clause-idle
+returns-in-Err-take_room-clause-idle c suffices =
     let own = subst (λ (s : Stored). Suffices s (block_view c.args.block.now) c.args.change.now) (sym c.self.view_is) suffices in
-    c.take_room.ensures.idle own.enough_places own.enough_room own.node_places
+    c.in-Err-take_room.ensures.idle own.enough_places own.enough_room own.node_places

@@ -30,7 +30,7 @@ root_after-self-inside-requires c = record {
 pub invariant_of-self : goal.invariant_of-self
 invariant_of-self c = put_kept _ _ c.self.invariant c.self.view_is c.args.prepared.now c.args.change.now c.requires.brings c.requires.room _ _ (record {
   head_is = refl;
-  roots_are = c.copy-self-inside.ensures;
+  roots_are = c.put_roots.ensures;
   root_is = c.root_after-self-inside.ensures;
   places_are = c.put_block.ensures.places;
   held_is = λ index. c.put_block.ensures.held index ∙ ap (λ (block : Option Block). held_put (has c.self.inside.held) block index) c.block.ensures;
@@ -45,7 +45,7 @@ pub returns : goal.returns
 returns c = put_admits _ _ c.self.invariant c.self.view_is c.args.prepared.now c.args.change.now c.requires.brings c.requires.room
     (record { parts = _; roots = _; root = _; room = 0; spare = None }) _ (record {
       head_is = refl;
-      roots_are = c.copy-self-inside.ensures;
+      roots_are = c.put_roots.ensures;
       root_is = c.root_after-self-inside.ensures;
       places_are = c.put_block.ensures.places;
       held_is = λ index. c.put_block.ensures.held index ∙ ap (λ (block : Option Block). held_put (has c.self.inside.held) block index) c.block.ensures;

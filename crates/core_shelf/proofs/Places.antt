@@ -15,7 +15,8 @@ use Rattle.disk_trait.specs.Disk.{DiskView}
 use Rattle.disk_trait.specs.History.{MemDiskView, fresh, disk_view_of}
 use Rattle.core_shelf.specs.declared.memory.Place.{Place}
 use Rattle.core_shelf.specs.declared.memory.Place.TheVariants.{Here, Out}
-use Rattle.core_shelf.specs.Shelf.{SameDisk, SamePlace, Others, is_among, AreInOrder, Lists, Takes, Marks}
+use Rattle.core_state.specs.Handing.{SameDisk}
+use Rattle.core_shelf.specs.Shelf.{SamePlace, Others, is_among, AreInOrder, Lists, Takes, Marks}
 use Rattle.core_shelf.specs.Memory.{disk_at, mem_disk_at, is_out, faults_at, made, place_of, Puts, shelf_of}
 
 -- each disk is as it is

@@ -1,5 +1,5 @@
 -- What is seen of a shelf of cores, and what its calls do to it.
-use Rattle.std.specs.Prelude.{◌≡◌, ◌↔◌, ℕ, ◌≤◌, Bool, true, false, List, Vec, Result, IfOk, OnOk, OnErr, IsErrOf}
+use Rattle.std.specs.Prelude.{◌≡◌, ℕ, ◌≤◌, Bool, true, false, List, Vec, Result, IfOk, OnOk, OnErr, IsErrOf}
 use Rattle.std.specs.declared.alloc.Global.{Global}
 use Rattle.std.specs.Ordering.{nat_cmp}
 use Rattle.std.specs.Cmp.Lexicographic.{slice_cmp}
@@ -7,8 +7,8 @@ use Rattle.std.specs.List.{list_any}
 use Rattle.std.specs.List.Sorted.{IsStrictlySortedBy}
 use Rattle.std.specs.Str.{bytes_eq}
 use Rattle.outside_traits.specs.Faults.{Rose}
-use Rattle.disk_trait.specs.declared.disk.Area.{Area}
 use Rattle.disk_trait.specs.Disk.{DiskView}
+use Rattle.core_state.specs.Handing.{SameDisk}
 use Rattle.core_shelf.specs.declared.fault.ShelfFault.{ShelfFault}
 use Rattle.core_shelf.specs.declared.fault.ShelfFault.TheVariants.{Failed}
 
@@ -29,15 +29,6 @@ is_among ids id = list_any (bytes_eq id) ids
 -- each id is below those after it, byte by byte: so none stands twice
 abbrev pub AreInOrder : List (List ℕ) → Type 0
 AreInOrder = IsStrictlySortedBy (slice_cmp nat_cmp)
-
--- a disk as it was: what it reads as, what a crash may leave of it, its clock and its counts
-pub record SameDisk (old new : DiskView) : Type 0 where
-  pub honest : new.honest ≡ old.honest
-  pub reads : (area : Area) → new.reads area ≡ old.reads area
-  pub images : (t : ℕ) (area : Area) (c : List ℕ) → (new.image t area c ↔ old.image t area c)
-  pub moment : new.moment ≡ old.moment
-  pub faults : new.faults ≡ old.faults
-  pub calls : new.calls ≡ old.calls
 
 -- an id's disk is as it was, and in or out as it was
 pub record SamePlace (old new : ShelfView) (id : List ℕ) : Type 0 where

@@ -7,13 +7,17 @@ mod fault;
 mod files;
 mod folder;
 mod memory;
+mod named;
 mod shelf;
 
-pub use fault::ShelfFault;
+pub use fault::{NamedFault, ShelfFault};
 pub use files::FileDisk;
 pub use folder::FolderShelf;
 pub use memory::MemShelf;
+pub use named::{close_named, make_named, open_named};
 pub use shelf::{IdList, Shelf};
 
+#[cfg(test)]
+mod named_tests;
 #[cfg(test)]
 mod tests;

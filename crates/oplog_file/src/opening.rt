@@ -6,6 +6,8 @@ ghost use Rattle.node_set.specs.declared.fault.CoreFault.TheVariants.{StoreFault
 ghost use Rattle.oplog_file.specs.Slots.{slot_of, header_in_slot, later_of, header_frame, is_after};
 ghost use Rattle.oplog_file.specs.Passing.{Consults};
 ghost use Rattle.oplog_file.specs.Opening.{header_payload_at, header_told, TellsHeader, Opens};
+ghost use Rattle.oplog_file.specs.Writers.{IsInFront};
+ghost use Rattle.oplog_form.specs.Headers.{HeaderFits};
 
 use crate::file::{OplogFile, room};
 use crate::frame::{Front, read_frame};
@@ -17,6 +19,8 @@ use std::alloc::Global;
 
 /// Opens a change file in front of its first entry, and gives the header that counts.
 pub fn open_at<D: Disk>(alloc: Global, disk: &mut D) -> Result<(OplogFile, Header), CoreFault>
+    ensures front { IfOk result (λ opened. IsInFront opened.0 opened.0.epoch) }
+    ensures fits { IfOk result (λ opened. HeaderFits opened.1) }
     ensures opens { IsTrue (D.disk disk.old).honest → Opens ((D.disk disk.old).reads Oplog) result }
     ensures consults { Consults (D.disk disk.old) (D.disk disk.new) result }
 {
@@ -27,6 +31,8 @@ pub fn open_at<D: Disk>(alloc: Global, disk: &mut D) -> Result<(OplogFile, Heade
 // The same, over a room that was taken before.
 fn open_over<D: Disk>(disk: &mut D, mut frame: Vec<u8>) -> Result<(OplogFile, Header), CoreFault>
     requires { length frame.items ≡ FRAME_HEAD_BYTES + MAX_ENTRY_BYTES }
+    ensures front { IfOk result (λ opened. IsInFront opened.0 opened.0.epoch) }
+    ensures fits { IfOk result (λ opened. HeaderFits opened.1) }
     ensures opens { IsTrue (D.disk disk.old).honest → Opens ((D.disk disk.old).reads Oplog) result }
     ensures consults { Consults (D.disk disk.old) (D.disk disk.new) result }
 {
@@ -37,6 +43,7 @@ fn open_over<D: Disk>(disk: &mut D, mut frame: Vec<u8>) -> Result<(OplogFile, He
 // Reads both slots to the front of the room, and finds the header that counts.
 fn find_header<D: Disk>(disk: &mut D, room: &mut [u8]) -> Result<(u64, Header), CoreFault>
     requires room { ENTRIES_AT ≤ length room.old }
+    ensures fits { IfOk result (λ found. HeaderFits found.1) }
     ensures header { IsTrue (D.disk disk.old).honest
         → TellsHeader ((D.disk disk.old).reads Oplog) result }
     ensures size { length room.new ≡ length room.old }
@@ -64,6 +71,7 @@ fn read_front<D: Disk>(disk: &mut D, room: &mut [u8]) -> Result<usize, CoreFault
 // The header that counts and its epoch, by the bytes of both slots.
 fn read_latest(slots: &[u8]) -> Result<(u64, Header), CoreFault>
     requires { length slots.now ≤ ENTRIES_AT }
+    ensures fits { IfOk result (λ found. HeaderFits found.1) }
     ensures header { TellsHeader slots.now result }
     ensures no_fault { IsErrOf result StoreFault → ⊥ }
 {

@@ -8,7 +8,7 @@ ghost use Rattle.oplog_form.specs.Headers.{HeaderFits, header_spelling};
 ghost use Rattle.oplog_file.specs.Frames.{frame_spelling};
 ghost use Rattle.oplog_file.specs.Counting.{FindsRoom};
 ghost use Rattle.oplog_file.specs.Files.{File};
-ghost use Rattle.oplog_file.specs.Writers.{IsBehind, IsInFront, Passes, Stands, new_header, with_entry, AddsEntry, CutsTail, MakesFile};
+ghost use Rattle.oplog_file.specs.Writers.{IsBehind, IsInFront, Passes, Stands, new_header, with_entry, OthersRest, AddsEntry, CutsTail, MakesFile};
 ghost use Rattle.oplog_file.specs.Storing.{Calls, Stores, Shortens, Remakes, Trims, trimmed_to, entry_frame};
 
 use crate::file::OplogFile;
@@ -171,6 +171,7 @@ impl OplogFile {
         ensures err { OnErr result (Stands self.old self.new) }
         ensures adds { (file : File) → IsTrue (D.disk disk.old).honest → IsBehind self.old file
             → AddsEntry file entry.now (D.disk disk.old) (D.disk disk.new) result }
+        ensures others { IsTrue (D.disk disk.old).honest → OthersRest (D.disk disk.old) (D.disk disk.new) }
         ensures calls { Calls 2 (D.disk disk.old) (D.disk disk.new) result }
         ensures store { IfErr result (λ fault. fault ≡ StoreFault) }
     {

@@ -35,10 +35,10 @@ use Rattle.core_disk.specs.Written.{is_new, IsEntryOf}
 -- ---- roots as values
 
 -- each subtree's node, whether it is stored or not
-abbrev own : Values → Values
+abbrev pub own : Values → Values
 own value depth offset = Some (twig_at value depth offset)
 
-own_nodes : (value : Values) (trees : List Subtree) → AreNodes (own value) trees (map (λ (tree : Subtree). node_at value tree.depth tree.offset) trees)
+pub own_nodes : (value : Values) (trees : List Subtree) → AreNodes (own value) trees (map (λ (tree : Subtree). node_at value tree.depth tree.offset) trees)
 own_nodes value [] = refl
 own_nodes value (tree ∷ trees) = ap (λ ns. Some (node_at value tree.depth tree.offset) ∷ ns) (own_nodes value trees)
 

@@ -99,7 +99,7 @@ file_gives_same id areas now file leaves =
 -- ---- the areas of a change
 
 -- an area is one file alone
-same_file : (area : List ℕ) (one other : File) → IsFile area one → IsFile area other → one ≡ other
+pub same_file : (area : List ℕ) (one other : File) → IsFile area one → IsFile area other → one ≡ other
 same_file area one other is_one is_other =
     let headers : Some one.header ≡ Some other.header = sym is_one.header_is ∙ is_other.header_is in
     let same : one.header ≡ other.header = cc in

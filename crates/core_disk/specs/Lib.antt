@@ -8,3 +8,15 @@ pub mod InHand
 pub mod Hands
 pub mod Starting
 pub mod Replaying
+pub mod Laid
+pub mod Testing
+pub mod Plans
+pub mod Planning
+pub mod Firm
+pub mod Committing
+pub mod Stored
+pub mod Cored
+pub mod Bringing
+pub mod Changing
+pub mod Filling
+pub mod Parts

@@ -115,8 +115,8 @@ fn known(roots: &Roots, records: &Records<'_>, index: u64) -> Option<Node>
     last_of(records, index, root)
 }
 
-// The last node of a number, or else the one that was found before.
-fn last_of(records: &Records<'_>, index: u64, before: Option<Node>) -> Option<Node>
+/// The last node of a number, or else the one that was found before.
+pub(crate) fn last_of(records: &Records<'_>, index: u64, before: Option<Node>) -> Option<Node>
     ensures { result ≡ last_of records.now index before }
 {
     let mut found = before;

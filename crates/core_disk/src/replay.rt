@@ -7,7 +7,7 @@ ghost use Rattle.oplog_form.specs.Headers.{HeaderFits};
 ghost use Rattle.oplog_form.specs.Entries.{EntryFits};
 ghost use Rattle.core_disk.specs.Opened.{start_of, entry_after};
 ghost use Rattle.core_disk.specs.Following.{has_numbers};
-ghost use Rattle.core_disk.specs.InHand.{opened_of, rootless, none_held, Agrees, Applies, NextRoots, HavePlaces};
+ghost use Rattle.core_disk.specs.InHand.{opened_of, IsKept, rootless, none_held, Agrees, Applies, NextRoots, HavePlaces};
 
 use crate::in_range::{hold, is_in_range, numbers_after};
 use crate::records::{known_roots, make_places, put_records};
@@ -66,6 +66,14 @@ impl DiskState {
             held,
             nodes: Nodes::new(alloc),
         }
+    }
+
+    /// The head. With it comes what is always kept.
+    pub(crate) fn head(&self) -> Head
+        ensures head { result ≡ self.now.head }
+        ensures kept { IsKept self.now }
+    {
+        self.head
     }
 
     /// Whether a block is held.

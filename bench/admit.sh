@@ -1,7 +1,6 @@
 #!/usr/bin/env bash
-# Times admissions of blocks one by one by the core in memory against the proved hash of the same leaves and parents, in
-# one run in which all of them take turns: the least time of five rounds (of as many as BENCH_ROUNDS says, for a machine
-# that is not quiet).
+# Times admissions of blocks one by one by the core in memory against the proved hash of the same bytes, in one run in
+# which both take turns: the least time of five rounds (of as many as BENCH_ROUNDS says, for a machine that is not quiet).
 # First build the program: (cd crates/core_bench && rt run)
 set -eu
 cd "$(dirname "$0")/.."
@@ -10,7 +9,7 @@ rounds=${BENCH_ROUNDS:-5}
 batches=${BENCH_BATCHES:-64}
 [ -x "$ours" ] || { echo "no $ours: run 'rt run' in crates/core_bench" >&2; exit 2; }
 
-declare -A least first last parents
+declare -A least first last
 for kind in admit admit-jump; do
     least[$kind]=0
     least[hash-$kind]=0
@@ -27,12 +26,10 @@ keep() {
 
 for _ in $(seq "$rounds"); do
     for kind in admit admit-jump; do
-        read -r begin end all up held < <($ours "$kind" "$batches")
+        read -r begin end all hash_begin hash_end hash_all _ held < <($ours "$kind" "$batches")
         [ "$held" = $((batches * 1024)) ] || { echo "$kind: $held blocks are held" >&2; exit 1; }
         keep "$kind" "$begin" "$end" "$all"
-        parents[$kind]=$up
-        read -r begin end all < <($ours hash-admit "$batches" "$up")
-        keep "hash-$kind" "$begin" "$end" "$all"
+        keep "hash-$kind" "$hash_begin" "$hash_end" "$hash_all"
     done
 done
 

@@ -2,6 +2,7 @@
 ghost use Rattle.std.specs.Prelude.{◌≤◌, length};
 ghost use Rattle.flat_tree.specs.declared.limits.TheConstants.{MAX_BLOCK_BYTES};
 
+use crate::hashes::used;
 use crate::offers::{Offer, block_at, spell, upgrade_to};
 use crate::times::{Times, since};
 use core_state::Core;
@@ -13,8 +14,8 @@ use std::time::Instant;
 /// The bytes of an admitted block.
 pub(crate) const BLOCK_BYTES: usize = 1000;
 
-/// The blocks whose admissions are timed at once.
-pub(crate) const CHUNK_BLOCKS: u64 = 64;
+// The blocks whose admissions are timed at once.
+const CHUNK_BLOCKS: u64 = 64;
 
 // Room for the proof of such a block.
 const OFFER_BYTES: usize = 2048;
@@ -35,11 +36,19 @@ impl Order {
     }
 }
 
-/// The times of some admissions, and how many parents they hashed.
+/// The times of some admissions and of the hashes that they need, and how many parents they hashed.
 #[derive(Clone, Copy)]
 pub(crate) struct Admitted {
     pub times: Times,
+    pub hashes: Times,
     pub parents: u64,
+}
+
+// The nanoseconds of a chunk's admissions, and of its hashes.
+#[derive(Clone, Copy)]
+struct Chunk {
+    admissions: u64,
+    hashes: u64,
 }
 
 /// Has the memory for so many blocks come from the system now, and not when they are admitted: it is taken in pieces that
@@ -73,7 +82,8 @@ pub(crate) fn upgrade<C: Core>(
 }
 
 /// Admits each block of a source, a chunk at a time, which another core admitted before: that one tells how many siblings
-/// a block needs then, and isn't timed. An admission that is refused ends the run with what was timed.
+/// a block needs then, and isn't timed. The hashes of a chunk are made beside, from the same proofs. An admission that is
+/// refused ends the run with what was timed.
 pub(crate) fn admit_all<C: Core>(
     rt: &HostRuntime,
     source: &mut C,
@@ -87,6 +97,7 @@ pub(crate) fn admit_all<C: Core>(
     let chunks = order.blocks as u64 / CHUNK_BLOCKS;
     let mut done = Admitted {
         times: Times::new(chunks),
+        hashes: Times::new(chunks),
         parents: 0,
     };
     let Some(mut bytes) = room_of(rt.alloc()) else {
@@ -104,10 +115,11 @@ pub(crate) fn admit_all<C: Core>(
         ) else {
             return Ok(done);
         };
-        let Some(nanoseconds) = admit_chunk(rt, core, &bytes)? else {
+        let Some(chunk) = time_chunk(rt, core, &bytes, number)? else {
             return Ok(done);
         };
-        done.times.add(number, nanoseconds);
+        done.times.add(number, chunk.admissions);
+        done.hashes.add(number, chunk.hashes);
         done.parents = done.parents.saturating_add(parents);
     }
     Ok(done)
@@ -167,18 +179,63 @@ fn spell_block<C: Core>(
     None
 }
 
-// The nanoseconds in which a core admits the proofs of a chunk, None where it doesn't.
-fn admit_chunk<C: Core>(rt: &HostRuntime, core: &mut C, bytes: &[Blob]) -> io::Result<Option<u64>> {
+// Times the proofs of a chunk, None where one isn't admitted. Every second chunk is hashed first, and each other one is
+// admitted first, so that neither finds the proofs nearer than the other.
+fn time_chunk<C: Core>(
+    rt: &HostRuntime,
+    core: &mut C,
+    bytes: &[Blob],
+    number: u64,
+) -> io::Result<Option<Chunk>> {
     let Some(offers) = offers_of(rt.alloc(), bytes) else {
         return Ok(None);
     };
+    if number % 2 == 0 {
+        let hashes = hash_chunk(rt, &offers)?;
+        return with_admissions(admit_chunk(rt, core, &offers)?, hashes);
+    }
+    let admissions = admit_chunk(rt, core, &offers)?;
+    with_admissions(admissions, hash_chunk(rt, &offers)?)
+}
+
+// Both times, None where there is none of the admissions.
+fn with_admissions(admissions: Option<u64>, hashes: u64) -> io::Result<Option<Chunk>> {
+    let Some(admissions) = admissions else {
+        return Ok(None);
+    };
+    Ok(Some(Chunk { admissions, hashes }))
+}
+
+// The nanoseconds in which a core admits the proofs of a chunk, None where it doesn't.
+fn admit_chunk<C: Core>(
+    rt: &HostRuntime,
+    core: &mut C,
+    offers: &[Offer<'_>],
+) -> io::Result<Option<u64>> {
     let start = Instant::now(rt)?;
-    let admitted = admit_each(core, rt.alloc(), &offers);
+    let admitted = admit_each(core, rt.alloc(), offers);
     let nanoseconds = since(rt, &start)?;
     if admitted {
         return Ok(Some(nanoseconds));
     }
     Ok(None)
+}
+
+// The nanoseconds in which the blocks and paths of a chunk are hashed.
+fn hash_chunk(rt: &HostRuntime, offers: &[Offer<'_>]) -> io::Result<u64> {
+    let start = Instant::now(rt)?;
+    let mixed = hash_each(offers);
+    let nanoseconds = since(rt, &start)?;
+    Ok(used(nanoseconds, mixed))
+}
+
+// Hashes the blocks and paths of some proofs. A byte of each path's last hash, mixed.
+fn hash_each(offers: &[Offer<'_>]) -> u8 {
+    let mut mixed = 0;
+    for offer in offers {
+        mixed ^= offer.hash();
+    }
+    mixed
 }
 
 // The proofs that are spelled in some places, None where one of them isn't.

@@ -1,9 +1,9 @@
 //! The hashes that the work of a core needs.
 
-use crate::admits::{BLOCK_BYTES, CHUNK_BLOCKS};
 use crate::appends::BATCH_BLOCKS;
 use crate::times::{Times, since};
 use blake2b_hash::{Blake2b, hash256};
+use merkle_nodes::Twig;
 use std::io;
 use std::time::Instant;
 
@@ -24,29 +24,19 @@ pub(crate) fn hash_all(rt: &HostRuntime, batches: u64, parents: u64) -> io::Resu
     Ok(with_use(times, mixed))
 }
 
-/// Makes the hashes of so many batches of admitted blocks, with so many parents in all.
-pub(crate) fn hash_admitted(rt: &HostRuntime, batches: u64, parents: u64) -> io::Result<Times> {
-    let chunks = batches.saturating_mul(BATCH_BLOCKS / CHUNK_BLOCKS);
-    let mut times = Times::new(chunks);
-    let mut mixed = 0;
-    let mut done = 0;
-    for number in 0..chunks {
-        let due = parents.wrapping_mul(number.wrapping_add(1)) / chunks.max(1);
-        let start = Instant::now(rt)?;
-        mixed ^= hash_chunk(number, due.wrapping_sub(done));
-        times.add(number, since(rt, &start)?);
-        done = due;
-    }
-    Ok(with_use(times, mixed))
-}
-
 // The times, which depend on what was hashed.
 fn with_use(times: Times, mixed: u8) -> Times {
-    let mut used = times;
+    let mut with = times;
+    with.first = used(with.first, mixed);
+    with
+}
+
+/// Some nanoseconds, which depend on what was hashed, by one.
+pub(crate) fn used(nanoseconds: u64, mixed: u8) -> u64 {
     if mixed == 0 {
-        used.first = used.first.saturating_add(1);
+        return nanoseconds.saturating_add(1);
     }
-    used
+    nanoseconds
 }
 
 // A byte of each of the hashes of a batch, mixed.
@@ -56,26 +46,20 @@ fn hash_batch(number: u64, parents: u64) -> u8 {
     for place in 0..BATCH_BLOCKS {
         let index = number.wrapping_mul(BATCH_BLOCKS).wrapping_add(place);
         leaf[..8].copy_from_slice(&index.to_le_bytes());
-        mixed ^= hash_path(hash256(&leaf), parents);
+        mixed ^= hash_parents(hash256(&leaf), parents);
     }
     mixed
 }
 
-// The same of a chunk of admitted blocks, with so many parents in all.
-fn hash_chunk(number: u64, parents: u64) -> u8 {
-    let mut block = [0; BLOCK_BYTES];
-    let mut hash = [0; 32];
-    let mut mixed = 0;
-    for place in 0..CHUNK_BLOCKS {
-        let index = number.wrapping_mul(CHUNK_BLOCKS).wrapping_add(place);
-        block[..8].copy_from_slice(&index.to_le_bytes());
-        hash = hash_leaf(&block);
-        mixed ^= hash[0];
+/// A byte of the last hash of a block's path, from where its bytes and its siblings lie.
+pub(crate) fn hash_path(block: &[u8], trail: &[Twig]) -> u8 {
+    let mut hash = hash_leaf(block);
+    let mut size = block.len() as u64;
+    for beside in trail {
+        size = size.wrapping_add(beside.size);
+        hash = hash_halves(size, &hash, &beside.hash);
     }
-    for _ in 0..parents {
-        hash = hash_halves(number, &hash, &hash);
-    }
-    mixed ^ hash[0]
+    hash[0]
 }
 
 // The hash of a leaf from where its block lies: a type, its bytes' number, and they.
@@ -98,7 +82,7 @@ fn hash_halves(size: u64, left: &[u8; 32], right: &[u8; 32]) -> [u8; 32] {
 }
 
 // A byte of the last of so many parents, each of the hash before.
-fn hash_path(from: [u8; 32], parents: u64) -> u8 {
+fn hash_parents(from: [u8; 32], parents: u64) -> u8 {
     let mut hash = from;
     for _ in 0..parents {
         hash = hash_parent(&hash);

@@ -2,9 +2,9 @@
 //! bytes; `get BATCHES` reads each block of such a log in order, and `jump BATCHES` each block after one of another batch;
 //! `hash BATCHES PARENTS` makes the hashes of as many leaves, with so many parents each. `admit BATCHES` upgrades a core to
 //! a log of so many batches of 1,024 blocks of 1,000 bytes and admits each block in order, and `admit-jump BATCHES` where
-//! they jump about; `hash-admit BATCHES PARENTS` makes the hashes of as many leaves, and so many parents in all. Each
-//! prints the nanoseconds of the first tenth, of the last tenth, and of all; behind them the admissions print how many
-//! parents they hashed, and how many blocks are held then. With no words it prints nothing.
+//! they jump about. Each prints the nanoseconds of the first tenth, of the last tenth, and of all; behind them the
+//! admissions print the same of the hashes that they need, how many parents these have, and how many blocks are held then.
+//! With no words it prints nothing.
 #![tactic(auto)]
 
 mod admits;
@@ -17,7 +17,7 @@ ghost use Rattle.std.specs.Prelude.{◌≡◌, ◌≤◌, IfOk, length};
 
 use crate::admits::{Admitted, BLOCK_BYTES, Order, admit_all, memory_of, upgrade};
 use crate::appends::{BATCH_BLOCKS, append_all, get_all};
-use crate::hashes::{hash_admitted, hash_all};
+use crate::hashes::hash_all;
 use crate::times::Times;
 use core_state::{Core, MemCore};
 use flat_tree::MAX_BLOCK_BYTES;
@@ -113,18 +113,15 @@ fn admit(rt: &HostRuntime, batches: u64, stride: u64) -> io::Result<()> {
         return Ok(());
     };
     let order = Order { blocks, stride };
-    let Admitted { times, parents } = admit_all(
-        rt,
-        &mut source,
-        &mut before,
-        &mut core,
-        order,
-        place,
-    )?;
+    let Admitted {
+        times,
+        hashes,
+        parents,
+    } = admit_all(rt, &mut source, &mut before, &mut core, order, place)?;
     let held = core.info().held;
     println!(rt;
-        "{} {} {} {} {}",
-        times.first, times.last, times.all, parents, held
+        "{} {} {} {} {} {} {} {}",
+        times.first, times.last, times.all, hashes.first, hashes.last, hashes.all, parents, held
     )
 }
 
@@ -136,7 +133,6 @@ fn timed(rt: &HostRuntime, kind: &str, batches: u64, parents: u64) -> io::Result
         "jump" => get(rt, batches, JUMP_BATCHES)?,
         "admit" => return admit(rt, batches, 1),
         "admit-jump" => return admit(rt, batches, JUMP_BLOCKS),
-        "hash-admit" => hash_admitted(rt, batches, parents)?,
         _ => hash_all(rt, batches, parents)?,
     };
     print(rt, times)

@@ -3,6 +3,7 @@ ghost use Rattle.std.specs.Prelude.{◌≤◌, ◌<◌, ◌≡◌, length};
 ghost use Rattle.flat_tree.specs.declared.limits.TheConstants.{MAX_BLOCK_BYTES, MAX_SIBLINGS};
 ghost use Rattle.proof_form.specs.Requests.{RequestFits};
 
+use crate::hashes::hash_path;
 use compact_enc::{Decoder, Encoder};
 use core_state::Core;
 use proof_check::prepare;
@@ -43,6 +44,15 @@ impl<'f> Offer<'f> {
     /// Takes in what it brings. Whether it is admitted.
     pub(crate) fn admit<C: Core>(&self, core: &mut C, alloc: Global) -> bool {
         core.admit(alloc, &prepare(&self.proof)).is_ok()
+    }
+
+    /// A byte of the last hash of its block's path, which has as many hashes as an admission makes, of the bytes where
+    /// they lie. 0 without a block.
+    pub(crate) fn hash(&self) -> u8 {
+        match &self.proof.block {
+            Some(block) => hash_path(block.bytes, block.trail.as_slice()),
+            None => 0,
+        }
     }
 }
 

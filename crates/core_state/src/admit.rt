@@ -141,17 +141,21 @@ impl MemState {
             is_in,
         );
         self.root = root_after(prepared, change, &self.root);
-        put_roots(&mut self.roots, &change.roots);
+        put_roots(prepared, change, &mut self.roots);
         self.head = change.head;
     }
 }
 
-// Puts some roots into the place of others.
-fn put_roots(place: &mut Roots, roots: &Roots)
-    ensures { place.new ≡ roots.now }
+// Puts the roots after a change into the place of those before: a block alone doesn't change them.
+fn put_roots(prepared: &Prepared<'_>, change: &Change, place: &mut Roots)
+    requires same { prepared.now.upgrade ≡ None → place.old ≡ change.now.roots }
+    ensures { place.new ≡ change.now.roots }
 {
+    if prepared.upgrade_length().is_none() {
+        return;
+    }
     place.clear();
-    place.extend(roots.as_slice());
+    place.extend(change.roots.as_slice());
 }
 
 // The root hash after a change: a block alone doesn't change it.

@@ -27,6 +27,11 @@ root_after-self-inside-requires c = record {
       c.self.invariant.root_is ∙ ap root_hash_of (c.self.invariant.root_nodes ∙ ap (λ (s : Stored). roots (content_of s)) c.self.view_is ∙ sym (c.requires.brings.same none));
 }
 
+pub put_roots-requires : goal.put_roots-requires
+put_roots-requires c = record {
+  same = λ none. c.self.invariant.root_nodes ∙ ap (λ (s : Stored). roots (content_of s)) c.self.view_is ∙ sym (c.requires.brings.same none);
+}
+
 pub invariant_of-self : goal.invariant_of-self
 invariant_of-self c = put_kept _ _ c.self.invariant c.self.view_is c.args.prepared.now c.args.change.now c.requires.brings c.requires.room _ _ (record {
   head_is = refl;

@@ -1,9 +1,10 @@
 -- What each exit of a change owes, from what its calls of the disk did.
-use Rattle.std.proofs.Common.{◌≡◌, ◌⊎◌, inl, inr, ℕ, ◌+◌, ◌<◌, ◌≤◌, List, ◌∷◌, [], ◌++◌, length, Option, None, Some, Result, Ok, Err, OnOk, refl, sym, ◌∙◌, subst, arith, length-append}
+use Rattle.std.proofs.Common.{◌≡◌, ◌⊎◌, inl, inr, ℕ, ◌<◌, ◌≤◌, List, ◌∷◌, [], ◌++◌, length, Option, None, Some, Result, Ok, Err, OnOk, refl, sym, ◌∙◌, subst, arith, length-append}
+use Rattle.std.specs.Prelude.{IsTrue}
 use Rattle.std.proofs.lemmas.Bool.{cases_lt}
 use Rattle.disk_trait.specs.declared.disk.Area.{Area}
 use Rattle.disk_trait.specs.declared.disk.Area.TheVariants.{Oplog, Tree, BitsA, BitsB, Blocks as BlocksArea}
-use Rattle.disk_trait.specs.Disk.{DiskView, Elapses, Rests, Torn, Touches, Keeps, Writes, Syncs, MayStay, overlay}
+use Rattle.disk_trait.specs.Disk.{DiskView, Elapses, Rests, Torn, Keeps, Writes, Syncs, MayStay, overlay}
 use Rattle.disk_trait.specs.Overlays.{torn_none}
 use Rattle.disk_trait.proofs.Runs.{elapses_on, keeps_none, touches_keeps}
 use Rattle.oplog_form.specs.declared.entry.Entry.{Entry}
@@ -15,8 +16,8 @@ use Rattle.compact_enc.specs.Spelling.{uint_spelling}
 use Rattle.oplog_file.specs.Files.{File, IsFile, next_frame, NoChance}
 use Rattle.oplog_file.specs.Writers.{IsFirmFile, IsTrim, AddsEntry, with_entry}
 use Rattle.oplog_file.proofs.WriteLaws.{keeps_touches}
-use Rattle.core_disk.specs.Plans.{Part, laid, TornBy}
-use Rattle.core_disk.specs.Firm.{RestsElse, IsBefore, IsAfter, IsCommitted, WritesChange}
+use Rattle.core_disk.specs.Plans.{Part, TornBy}
+use Rattle.core_disk.specs.Firm.{IsBefore, IsAfter, IsCommitted, WritesChange}
 use Rattle.core_disk.specs.declared.writing.BlocksPart.{BlocksPart}
 use Rattle.core_disk.specs.Bringing.{part_of, LeavesLaid, Brings}
 
@@ -199,3 +200,11 @@ pub change_made : {T E S F : Type 0} (file : File) (part : Option Part) (payload
 change_made {T} {E} {S} {F} file part payload bytes old mid new x answer same brings adds =
     change_written {T = T} {E = E} {S = S} {F = F} file part payload old mid new x answer brings
     (subst (λ l. AddsEntry {T = T} {E = E} file l mid new answer) same adds)
+
+-- what was written to a disk was written to each that equals it
+pub change_from : {D T E : Type 0} (disk : D → DiskView) (file : File) (part : Option Part) (payload : List ℕ) (old now : D) (new : DiskView)
+    (answer : Result T E) → now ≡ old → IsTrue (disk old).honest
+    → (IsTrue (disk now).honest → WritesChange {T = T} {E = E} file part payload (disk now) new answer)
+    → WritesChange {T = T} {E = E} file part payload (disk old) new answer
+change_from {T = T} {E = E} disk file part payload old now new answer same honest writes =
+    subst (λ d. WritesChange {T = T} {E = E} file part payload (disk d) new answer) same (writes (subst (λ d. IsTrue (disk d).honest) (sym same) honest))

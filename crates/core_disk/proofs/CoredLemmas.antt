@@ -1,18 +1,18 @@
 -- The calls of a core over a disk.
-use Rattle.std.proofs.Common.{◌≡◌, ◌⊎◌, inl, inr, ℕ, Bool, true, false, ◌<◌, ◌≤◌, List, Option, Some, None, Result, Ok, Err, refl, sym, ap, subst, ◌∙◌, arith}
+use Rattle.std.proofs.Common.{◌≡◌, ◌⊎◌, inl, inr, ℕ, Bool, true, ◌≤◌, List, Option, Some, None, Result, Ok, Err, refl, sym, ap, subst, ◌∙◌, arith}
 use Rattle.std.specs.Prelude.{IsTrue, IfErr, OnOk, ◌&&◌}
 use Rattle.std.proofs.lemmas.Bool.{and_parts, cases_Bool}
 use Rattle.outside_traits.specs.Faults.{Rose}
 use Rattle.flat_tree.specs.declared.limits.TheConstants.{MAX_BLOCKS}
 use Rattle.disk_trait.specs.Disk.{DiskView}
 use Rattle.commit_book.specs.declared.commit.Commit.{Commit}
-use Rattle.commit_book.specs.History.{entry_of, KeepsRoot}
+use Rattle.commit_book.specs.History.{Summary, entry_of, KeepsRoot}
 use Rattle.merkle_nodes.specs.Roots.{root_hash_of}
 use Rattle.oplog_form.specs.declared.entry.Entry.{Entry}
 use Rattle.node_set.specs.declared.fault.CoreFault.{CoreFault}
 use Rattle.node_set.specs.declared.fault.CoreFault.TheVariants.{Broken, Memory, Limit, StoreFault, BadStore}
 use Rattle.node_set.specs.declared.fault.Receipt.{Receipt}
-use Rattle.node_set.specs.Contents.{Content, roots, summary_of}
+use Rattle.node_set.specs.Contents.{Content, summary_of}
 use Rattle.node_set.specs.Walks.{KeepsView}
 use Rattle.node_set.specs.Whole.{IsWhole}
 use Rattle.core_state.specs.Events.{Event, Reply}
@@ -25,9 +25,8 @@ use Rattle.merkle_nodes.specs.declared.limit.What.{What}
 use Rattle.merkle_nodes.specs.declared.limit.What.TheVariants.{Oplog as EntriesBytes}
 use Rattle.core_state.specs.States.{receipt_of}
 use Rattle.disk_trait.specs.declared.disk.Area.TheVariants.{Blocks as BlocksArea}
-use Rattle.commit_book.specs.declared.commit.Commit.TheVariants.{Clear, Fetch}
 use Rattle.oplog_file.specs.Storing.{Calls}
-use Rattle.core_disk.specs.Committing.{KeepsNodes, IsFit, IsCommitFault, TakesIn, Tells}
+use Rattle.core_disk.specs.Committing.{IsFit, IsCommitFault, TakesIn, Tells}
 use Rattle.core_disk.specs.Opened.{Opened, short_of, entry_after}
 use Rattle.core_disk.specs.Standing.{HasBlocks, IsOpenedAs}
 use Rattle.core_disk.specs.InHand.{InHand, IsKept, Agrees, opened_of}
@@ -38,7 +37,7 @@ use Rattle.core_disk.specs.Cored.{core_state}
 use Rattle.core_disk.specs.Testing.{is_kept, is_whole, has_blocks, IsBounded}
 use Rattle.core_disk.proofs.Testing.{told_kept, whole_told, told_whole, has_told, told_has}
 use Rattle.core_disk.proofs.LaidLemmas.{bounded_in, content_is, opened_in, summary_in, agrees_content, followed_keeps, planned_content}
-use Rattle.core_disk.proofs.EntryGives.{entry_gives, entry_follows}
+use Rattle.core_disk.proofs.EntryGives.{short_is, entry_gives, entry_follows}
 use Rattle.core_disk.proofs.FollowLaws.{both, follows_test}
 
 -- the core stands, in words
@@ -180,14 +179,7 @@ pub record Plan (accepts : List ℕ → List ℕ → Bool) (m : Content) (o : Op
   pub commit : Commit
   pub after : Content
   pub plans : Plans accepts m commit after e part
-  pub same_roots : KeepsNodes commit (roots m) (roots after)
   pub next : Next accepts m event after (Done (Ok (receipt_of after (Some commit))))
-
--- the root hash stays where the roots do
-keeps_root : (commit : Commit) (o : Opened) (now : List Node) → KeepsNodes commit o.roots now → KeepsRoot (entry_of commit (root_hash_of now)) (short_of o)
-keeps_root (Clear from to) o now same = ap root_hash_of same
-keeps_root (Fetch index) o now same = ap root_hash_of same
-keeps_root other o now same = tt
 
 -- The entry of a change is written, and what is in memory is what it gives: of every core a legal step of its history, and of one that
 -- stands what follows its event.
@@ -206,9 +198,9 @@ module _ (accepts : List ℕ → List ℕ → Bool) (old new : DiskView) (hand a
       let gives = entry_gives o m opened is.whole.sound p.commit p.after p.plans.legal p.plans.whole.sound e p.plans.is_entry in
       record {
         follow = follows_test o e (entry_follows o m opened is.whole.sound p.commit p.after p.plans.legal p.plans.whole.sound e p.plans.is_entry);
-        same_roots = subst (λ (c : Commit). KeepsNodes c o.roots (entry_after o e).roots) (sym p.plans.is_entry.commit_is)
-            (subst (λ (ns : List Node). KeepsNodes p.commit ns (entry_after o e).roots) (sym opened.roots_are)
-            (subst (KeepsNodes p.commit (roots m)) (sym gives.roots_are) p.same_roots));
+        same_root = subst (λ (c : Commit). KeepsRoot (entry_of c (root_hash_of (entry_after o e).roots)) (short_of o)) (sym p.plans.is_entry.commit_is)
+            (subst (λ (s : Summary). KeepsRoot (entry_of p.commit (root_hash_of (entry_after o e).roots)) s) (sym (short_is o m opened))
+            (subst (λ (ns : List Node). KeepsRoot (entry_of p.commit (root_hash_of ns)) (summary_of m)) (sym gives.roots_are) p.plans.legal.0.1));
       }
 
   module _ (kept_after : IsKept after) (few : e.head.length ≤ MAX_BLOCKS) (fit : IsFit e (opened_of hand))
@@ -241,7 +233,7 @@ module _ (accepts : List ℕ → List ℕ → Bool) (old new : DiskView) (hand a
     legal : KeepsHistory (content_of old hand) (content_of new after) (Some e.commit)
     legal =
         let o = opened_of hand in
-        let step = followed_keeps o e fit.follow rooted (blocks_area old) (blocks_area new) (keeps_root e.commit o (entry_after o e).roots fit.same_roots) in
+        let step = followed_keeps o e fit.follow rooted (blocks_area old) (blocks_area new) fit.same_root in
         subst (λ (c : Content). KeepsHistory (content_of old hand) c (Some e.commit))
         (sym (agrees_content (opened_of after) (entry_after o e) agrees few (blocks_area new))) step
 

@@ -1,8 +1,8 @@
 -- What a firm disk stands for, and what a change of its content leaves of it.
 use Rattle.std.proofs.lemmas.Bool.{cases_lt}
-use Rattle.std.proofs.Common.{◌≡◌, ◌⊎◌, inl, inr, ℕ, ◌≤◌, Bool, List, [], ◌∷◌, Option, Some, Result, Ok, Err, OnOk, sym, ap, ◌∙◌, subst, arith}
+use Rattle.std.proofs.Common.{◌≡◌, ◌⊎◌, inl, inr, ℕ, ◌≤◌, Bool, List, [], ◌∷◌, Option, Result, Ok, Err, OnOk, sym, ap, ◌∙◌, subst, arith}
 use Rattle.disk_trait.specs.declared.disk.Area.TheVariants.{Oplog, Tree, BitsA, BitsB, Blocks as BlocksArea}
-use Rattle.disk_trait.specs.Disk.{DiskView, Rests, Keeps, IsSynced, IsImage, MayStay}
+use Rattle.disk_trait.specs.Disk.{DiskView, Keeps, IsSynced, IsImage, MayStay}
 use Rattle.disk_trait.proofs.Runs.{elapses_on, rests_synced}
 use Rattle.commit_book.specs.declared.commit.Commit.{Commit}
 use Rattle.oplog_form.specs.declared.entry.Entry.{Entry}
@@ -13,7 +13,7 @@ use Rattle.node_set.specs.Contents.{Content}
 use Rattle.core_disk.specs.Areas.{Areas, file_gives}
 use Rattle.core_disk.specs.Standing.{HasBlocks, StandsFor, LeavesRest}
 use Rattle.core_disk.specs.Plans.{Part, laid, Plans}
-use Rattle.core_disk.specs.Firm.{IsFirmFor, RestsElse, IsBefore, IsAfter, IsCommitted, WritesChange, Commits}
+use Rattle.core_disk.specs.Firm.{IsFirmFor, RestsElse, IsCommitted, WritesChange, Commits}
 use Rattle.core_disk.specs.Changing.{MakesChange, IsLeftBetween}
 use Rattle.core_disk.proofs.StandingLaws.{file_gives_same, same_file, entry_stands}
 

@@ -13,6 +13,7 @@ pub mod LoadLemmas
 pub mod FillLemmas
 pub mod OpenLemmas
 pub mod PartLemmas
+pub mod HandedLemmas
 pub mod NewStore
 pub mod NewNodes
 pub mod AppendEntry
@@ -25,6 +26,7 @@ pub mod LaidLemmas
 pub mod StoreLemmas
 pub mod CoredLemmas
 pub mod ReadActs
+pub mod ChangePlansMade
 pub mod ChangeWrites
 pub mod FirmLaws
 pub mod ChangePlans
@@ -35,3 +37,7 @@ pub mod RootRecords
 pub mod CutPlans
 pub mod AdmitPlan
 pub mod BytesBefore
+pub mod CommitFits
+pub mod SafeChanges
+pub mod StandingDisks
+pub mod ChangeActs

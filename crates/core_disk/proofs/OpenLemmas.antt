@@ -39,7 +39,7 @@ use Rattle.core_disk.proofs.RecordLemmas.{agree_nodes}
 abbrev signed_with : (List ℕ → List ℕ → Bool) → Head → List Node → Type 0
 signed_with accepts head ns = Accepts accepts head.fork head.length ns head.signature ⊎ (head ≡ head_of start)
 
-signed_as : (accepts : List ℕ → List ℕ → Bool) (one other : Opened) → one.head ≡ other.head → one.roots ≡ other.roots → HasSignedHead accepts one → HasSignedHead accepts other
+pub signed_as : (accepts : List ℕ → List ℕ → Bool) (one other : Opened) → one.head ≡ other.head → one.roots ≡ other.roots → HasSignedHead accepts one → HasSignedHead accepts other
 signed_as accepts one other head roots_are signed =
     subst (λ (ns : List Node). signed_with accepts other.head ns) roots_are (subst (λ (h : Head). signed_with accepts h one.roots) head signed)
 

@@ -1,6 +1,6 @@
 -- What a core over a disk tells without changing it.
-use Rattle.std.proofs.Common.{◌≡◌, ◌⊎◌, inl, inr, ℕ, Bool, true, false, ◌<◌, ◌≤◌, List, length, take, Option, Some, None, Result, Ok, Err, refl, sym, ap, subst, ◌∙◌, arith}
-use Rattle.std.specs.Prelude.{IsTrue, IfOk, IfErr, is_some, not}
+use Rattle.std.proofs.Common.{◌≡◌, ◌⊎◌, inl, inr, ℕ, Bool, true, false, ◌<◌, ◌≤◌, List, length, take, Option, Some, None, Result, Ok, Err, refl, sym, ap, ◌∙◌, arith}
+use Rattle.std.specs.Prelude.{IsTrue, IfOk, is_some, not}
 use Rattle.std.proofs.lemmas.Bool.{cases_Bool, lt-ltb, le-ltb}
 use mathlib.Core.Path.{fun_ext}
 use Rattle.bit_field.specs.Places.{has, count_below, AllHave}
@@ -17,7 +17,7 @@ use Rattle.node_set.specs.declared.fault.CoreFault.TheVariants.{StoreFault, OutO
 use Rattle.node_set.specs.declared.fault.Receipt.{Receipt}
 use Rattle.node_set.specs.Contents.{Content, held, roots, bytes_under}
 use Rattle.node_set.specs.Offsets.{need_of}
-use Rattle.node_set.specs.Views.{ViewState, KeepsContent, TellsFault, HasViewCause, AnswersBy}
+use Rattle.node_set.specs.Views.{ViewState, KeepsContent, HasViewCause, AnswersBy}
 use Rattle.node_set.specs.Walks.{KeepsView}
 use Rattle.node_set.specs.Refuses.{refuse_if}
 use Rattle.core_snap.specs.declared.snapshot.ReadAt.{ReadAt}
@@ -32,7 +32,7 @@ use Rattle.core_state.specs.Events.{proof_in}
 use Rattle.core_state.specs.Events.Event.{Get, Need, Page, Make}
 use Rattle.core_state.specs.Events.Reply.{Read, Number, Bits, Made}
 use Rattle.core_state.specs.States.{info_of, receipt_of}
-use Rattle.core_state.specs.Refusals.{need_answer, or_no_reply, proof_answer}
+use Rattle.core_state.specs.Refusals.{or_no_reply}
 use Rattle.core_state.specs.Next.{Next, answer_in}
 use Rattle.core_state.specs.Calls.{Acts, Fails, IsSafe, commit_in}
 use Rattle.core_disk.specs.InHand.{InHand, IsKept, opened_of}

@@ -1,11 +1,11 @@
 -- A disk with what is in memory of it, as a view.
-use Rattle.std.proofs.Common.{◌≡◌, ℕ, Bool, true, false, ◌<◌, ◌≤◌, List, Option, Some, None, Result, Ok, Err, refl, sym, ap, subst, ◌∙◌, arith, length, take, ◌++◌}
+use Rattle.std.proofs.Common.{◌≡◌, ℕ, Bool, true, ◌<◌, ◌≤◌, List, Option, Some, Err, refl, sym, ap, ◌∙◌, arith, length, take, ◌++◌}
 use Rattle.std.proofs.lemmas.List.{take-append-le, take_all}
 use Rattle.node_set.specs.Walks.{KeepsView}
 use Rattle.node_set.proofs.ClosureLemmas.{true_closure}
 use Rattle.flat_tree.specs.declared.limits.TheConstants.{MAX_BLOCKS}
 use Rattle.core_disk.specs.declared.replay.TheConstants.{MAX_NODES}
-use Rattle.std.specs.Prelude.{IsTrue, is_some, ◌*◌, ◌&&◌}
+use Rattle.std.specs.Prelude.{IsTrue, ◌&&◌}
 use Rattle.std.proofs.lemmas.Bool.{and_parts}
 use Rattle.outside_traits.specs.Faults.{count_fault}
 use mathlib.Core.Path.{fun_ext}
@@ -18,19 +18,18 @@ use Rattle.disk_trait.specs.declared.disk.Area.TheVariants.{Tree}
 use Rattle.merkle_nodes.specs.declared.node.Twig.{Twig}
 use Rattle.merkle_nodes.specs.Tree.{leaf_of}
 use Rattle.node_set.specs.declared.fault.CoreFault.{CoreFault}
-use Rattle.node_set.specs.declared.fault.CoreFault.TheVariants.{BadStore, StoreFault}
-use Rattle.node_set.specs.Contents.{Content, held, twig_at}
+use Rattle.node_set.specs.declared.fault.CoreFault.TheVariants.{BadStore}
+use Rattle.node_set.specs.Contents.{held, twig_at}
 use Rattle.node_set.specs.Closure.{in_closure}
 use Rattle.node_set.specs.Nodes.{values_of}
 use Rattle.node_set.specs.Views.{HasViewCause}
-use Rattle.node_set.specs.Whole.{IsSound, KeepsLimits, NodesFit}
+use Rattle.node_set.specs.Whole.{IsSound, KeepsLimits}
 use Rattle.node_set.proofs.RootTruth.{twig_at-some}
 use Rattle.node_set.proofs.SoundLemmas.{stored_value}
-use Rattle.core_disk.specs.Opened.{Opened}
 use Rattle.core_disk.specs.InHand.{InHand, IsKept, opened_of}
 use Rattle.core_disk.specs.Laid.{outline}
 use Rattle.core_disk.specs.Testing.{is_kept, has_blocks}
-use Rattle.core_disk.specs.Stored.{blocks_area, content_of, is_standing, stored_view}
+use Rattle.core_disk.specs.Stored.{blocks_area, content_of, is_standing, stored_view, planned_view}
 use Rattle.core_disk.proofs.Testing.{kept_told}
 use Rattle.core_disk.proofs.LaidLemmas.{bounded_in, held_in}
 
@@ -43,10 +42,11 @@ standing_kept disk hand kept stands =
     kept_told m (bounded_in (blocks_area disk) (opened_of hand) kept.spare) (and_parts (is_kept m) (has_blocks (blocks_area disk) m) both.1).0
 
 -- a call of the view answered that a record is bad, which can't be where they stand
-pub bad_told : {T : Type 0} → (disk : DiskView) (hand : InHand) (answered : ℕ) (last : Option CoreFault) (at : ℕ) → answered ≤ count_fault answered
+pub bad_told : {T : Type 0} → (disk : DiskView) (hand : InHand) (answered : ℕ) (last : Option CoreFault) (faults at : ℕ) → answered ≤ count_fault answered
     → (IsTrue (is_standing disk hand) → ⊥)
-    → HasViewCause {T = T} (stored_view disk hand answered last) (stored_view disk hand (count_fault answered) (Some (BadStore Tree at))) (Err (BadStore Tree at))
-bad_told disk hand answered last at more never = record {
+    → HasViewCause {T = T} (planned_view disk hand answered last faults) (planned_view disk hand (count_fault answered) (Some (BadStore Tree at)) faults)
+    (Err (BadStore Tree at))
+bad_told disk hand answered last faults at more never = record {
   faults = omega arith;
   answered = more;
   told = record {

@@ -1,9 +1,10 @@
--- When the entry of a change may be taken in, and what a change tells; no call changes a core on a disk so far.
+-- A change is written, and taken in once it is on the disk.
 use Rattle.std.specs.Prelude.{◌≡◌, ◌≢◌, ◌⊎◌, ℕ, true, false, List, Option, Some, Result, Ok, Err, ⊤}
 use Rattle.outside_traits.specs.Faults.{Rose}
 use Rattle.disk_trait.specs.Disk.{DiskView}
 use Rattle.commit_book.specs.declared.commit.Commit.{Commit}
-use Rattle.commit_book.specs.declared.commit.Commit.TheVariants.{Clear, Fetch}
+use Rattle.commit_book.specs.History.{entry_of, KeepsRoot}
+use Rattle.merkle_nodes.specs.Roots.{root_hash_of}
 use Rattle.merkle_nodes.specs.declared.node.Node.{Node}
 use Rattle.merkle_nodes.specs.declared.limit.What.TheVariants.{Oplog as EntriesBytes}
 use Rattle.oplog_form.specs.declared.entry.Entry.{Entry}
@@ -11,20 +12,30 @@ use Rattle.oplog_file.specs.declared.layout.TheConstants.{MAX_ENTRIES_BYTES}
 use Rattle.node_set.specs.declared.fault.CoreFault.{CoreFault}
 use Rattle.node_set.specs.declared.fault.Receipt.{Receipt}
 use Rattle.node_set.specs.declared.fault.CoreFault.TheVariants.{Memory, Limit, StoreFault, BadStore}
-use Rattle.core_disk.specs.Opened.{Opened, entry_after}
+use Rattle.core_disk.specs.declared.replay.ApplyFault.{ApplyFault}
+use Rattle.core_disk.specs.declared.replay.ApplyFault.TheVariants.{Memory as NoMemory, DoesntFollow}
+use Rattle.core_disk.specs.Opened.{Opened, short_of, entry_after}
 use Rattle.core_disk.specs.Following.{follows}
-use Rattle.core_disk.specs.InHand.{Agrees}
+use Rattle.core_disk.specs.InHand.{InHand, opened_of, Agrees, NextRoots, HavePlaces}
 
--- a clearing and a fetched block keep the roots
-abbrev pub KeepsNodes : Commit → List Node → List Node → Type 0
-KeepsNodes (Clear from to) was now = now ≡ was
-KeepsNodes (Fetch index) was now = now ≡ was
-KeepsNodes other was now = Unit {0}
-
--- an entry follows, and keeps the roots where its commit does
+-- an entry follows, and keeps the root hash where its commit does
 pub record IsFit (e : Entry) (o : Opened) : Type 0 where
   pub follow : follows o e ≡ true
-  pub same_roots : KeepsNodes e.commit o.roots (entry_after o e).roots
+  pub same_root : KeepsRoot (entry_of e.commit (root_hash_of (entry_after o e).roots)) (short_of o)
+
+-- the roots after an entry that follows, and a place for each of its nodes
+abbrev pub MakesReady : Entry → InHand → InHand → Result (List Node) ApplyFault → Type 0
+MakesReady e old new (Ok roots) = NextRoots (opened_of old) e (Some roots) × HavePlaces new.nodes e.records
+MakesReady e old new (Err NoMemory) = ⊤
+MakesReady e old new (Err DoesntFollow) = follows (opened_of old) e ≡ false
+
+-- the same where it is fit, and else a fault
+abbrev pub IsReady : Entry → InHand → InHand → Result (List Node) CoreFault → Type 0
+IsReady e old new (Ok roots) =
+    IsFit e (opened_of old) × NextRoots (opened_of old) e (Some roots) × HavePlaces new.nodes e.records
+IsReady e old new (Err Memory) = ⊤
+IsReady e old new (Err (BadStore area at)) = IsFit e (opened_of old) → ⊥
+IsReady e old new (Err other) = ⊥
 
 -- with Ok the entry is done, and else what is in memory stays
 abbrev pub TakesIn : Entry → Opened → Opened → Result (Unit {0}) CoreFault → Type 0

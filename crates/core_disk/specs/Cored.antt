@@ -1,14 +1,16 @@
 -- A core over a disk: its parts, what is seen of it, and what a change does to a disk that a crash can't take.
-use Rattle.std.specs.Prelude.{◌≡◌, ◌≢◌, ◌⊎◌, ℕ, Bool, true, ◌≤◌, ◌&&◌, List, [], ◌∷◌, Option, Result, Ok, Err, IsErrOf}
+use Rattle.std.specs.Prelude.{◌≡◌, ◌≢◌, ◌⊎◌, ℕ, Bool, true, ◌+◌, ◌≤◌, ◌&&◌, List, [], ◌∷◌, Option, Some, None, Result, Ok, Err, IsTrue}
+use Rattle.outside_traits.specs.Faults.{Rose}
 use Rattle.disk_trait.specs.declared.disk.Area.TheVariants.{Oplog}
-use Rattle.disk_trait.specs.Disk.{DiskView, IsImage}
+use Rattle.disk_trait.specs.Disk.{DiskView, Elapses, IsImage}
+use Rattle.disk_trait.specs.Runs.{LeavesOnly}
 use Rattle.commit_book.specs.declared.commit.Commit.{Commit}
 use Rattle.oplog_form.specs.declared.entry.Entry.{Entry}
 use Rattle.oplog_form.specs.Entries.{entry_spelling}
-use Rattle.oplog_file.specs.Files.{File, next_frame, NoChance}
+use Rattle.oplog_file.specs.Files.{File, IsFile, next_frame, NoChance}
 use Rattle.oplog_file.specs.Writers.{Place}
 use Rattle.node_set.specs.declared.fault.CoreFault.{CoreFault}
-use Rattle.node_set.specs.declared.fault.CoreFault.TheVariants.{StoreFault}
+use Rattle.node_set.specs.declared.fault.CoreFault.TheVariants.{Broken, StoreFault}
 use Rattle.node_set.specs.declared.fault.Receipt.{Receipt}
 use Rattle.node_set.specs.Contents.{Content}
 use Rattle.core_state.specs.Events.{Event}
@@ -41,6 +43,20 @@ core_state accepts disk hand broken = record {
   fills = true;
 }
 
+-- what is seen of a core by what is seen of its disk and what its authority accepts
+abbrev pub state_of : {D A : Type 0} → (D → DiskView) → (A → List ℕ → List ℕ → Bool) → Cored D A → CoreState
+state_of disk accepts core = core_state (accepts core.auth) (disk core.store.disk) core.store.hand core.broken
+
+-- the content that it shows
+abbrev pub shown : {D A : Type 0} → (D → DiskView) → Cored D A → Content
+shown disk core = content_of (disk core.store.disk) core.store.hand
+
+-- what is seen of its disk
+abbrev pub disk_under : {D A : Type 0} → (D → DiskView) → Cored D A → DiskView
+disk_under disk core = disk core.store.disk
+
+-- ---- changes
+
 -- a content that follows an event, and the entry that leads to it
 pub record IsNextBy (accepts : List ℕ → List ℕ → Bool) (m : Content) (event : Event) (after : Content) (e : Entry) : Type 0 where
   pub receipt : Receipt
@@ -48,15 +64,39 @@ pub record IsNextBy (accepts : List ℕ → List ℕ → Bool) (m : Content) (ev
   pub next : Next accepts m event after (Done (Ok receipt))
   pub is_entry : IsEntryOf m commit after e
 
--- A change on a disk that a crash can't take what it stands for: at each moment a crash leaves areas that stand for the content before
--- it or for one that follows its event, but for what makes frames by chance. After an answer that isn't a fault of the disk it is
--- firm for the content then.
-pub record IsSafeChange (accepts : List ℕ → List ℕ → Bool) (id : List ℕ) (m : Content) (event : Event) (old new : DiskView) (place : Place) (now : Content) (answer : Result Receipt CoreFault) : Type 0 where
+-- At each moment of a change a crash leaves areas that stand for the content before it or for one that follows its event, but for what
+-- makes frames by chance.
+pub record IsBetween (accepts : List ℕ → List ℕ → Bool) (id : List ℕ) (m : Content) (event : Event) (old new : DiskView) : Type 0 where
   pub after : Content
   pub entry : Entry
-  pub follows : (after ≡ m) ⊎ IsNextBy accepts m event after entry
+  pub follows : IsNextBy accepts m event after entry
   pub file : File
+  pub is_file : IsFile (old.reads Oplog) file
+  pub time : Elapses old new
   pub any_moment : (t : ℕ) (areas : Areas) → old.moment ≤ t → t ≤ new.moment → IsImage new t areas
       → NoChance (next_frame file (entry_spelling entry) ∷ []) (old.reads Oplog) (areas Oplog)
       → StandsFor accepts id areas m ⊎ StandsFor accepts id areas after
+
+-- A change that a crash can't take: at each moment it leaves the content before the change, or that or the one after it. After an answer
+-- that isn't a fault of the disk it is firm for the content then.
+pub record IsSafeChange (accepts : List ℕ → List ℕ → Bool) (id : List ℕ) (m : Content) (event : Event) (old new : DiskView) (place : Place) (now : Content) (answer : Result Receipt CoreFault) : Type 0 where
+  pub any_moment : LeavesOnly old new (λ areas. StandsFor accepts id areas m) ⊎ IsBetween accepts id m event old new
   pub firm : (answer ≢ Err StoreFault) → IsFirmFor accepts id new place now
+
+-- the most calls of its disk that a change makes
+abbrev pub most_calls : ℕ
+most_calls = 4
+
+-- What a change does to the disk of a core: at most so many calls; a fault of the disk breaks the core at the count of faults then, and a
+-- broken core answers so and makes no call; and a crash can't take what the disk stands for.
+pub record ChangesDisk {D A : Type 0} (disk : D → DiskView) (accepts : A → List ℕ → List ℕ → Bool) (event : Event) (old new : Cored D A) (answer : Result Receipt CoreFault) : Type 0 where
+  pub auth : new.auth ≡ old.auth
+  pub honest : (disk new.store.disk).honest ≡ (disk old.store.disk).honest
+  pub calls : (disk new.store.disk).calls ≤ (disk old.store.disk).calls + most_calls
+  pub quiet : (count : ℕ) → old.broken ≡ Some count → (answer ≡ Err (Broken count)) × (new.store.disk ≡ old.store.disk)
+  pub rose : answer ≡ Err StoreFault → Rose (disk old.store.disk).faults (disk new.store.disk).faults
+  pub broke : answer ≡ Err StoreFault → new.broken ≡ Some (disk new.store.disk).faults
+  pub breaks : answer ≢ Err StoreFault → new.broken ≡ old.broken
+  pub safe : (id : List ℕ) → IsTrue (disk old.store.disk).honest → old.broken ≡ None
+      → IsFirmFor (accepts old.auth) id (disk old.store.disk) old.place (shown disk old)
+      → IsSafeChange (accepts old.auth) id (shown disk old) event (disk old.store.disk) (disk new.store.disk) new.place (shown disk new) answer

@@ -1,5 +1,5 @@
 -- When a crash can't take from a core's disk what it stands for, and what a change leaves of it at each moment.
-use Rattle.std.specs.Prelude.{◌≡◌, ◌⊎◌, ℕ, ◌≤◌, Bool, List, [], ◌∷◌, Option, Result, Ok, OnOk}
+use Rattle.std.specs.Prelude.{◌≡◌, ◌⊎◌, ℕ, ◌≤◌, Bool, true, List, [], ◌∷◌, Option, Result, Ok, OnOk}
 use Rattle.disk_trait.specs.declared.disk.Area.TheVariants.{Oplog, Tree, BitsA, BitsB, Blocks as BlocksArea}
 use Rattle.disk_trait.specs.Disk.{DiskView, Elapses, Rests, IsSynced, IsImage}
 use Rattle.oplog_form.specs.declared.entry.Entry.{Entry}
@@ -11,7 +11,7 @@ use Rattle.node_set.specs.Whole.{IsWhole}
 use Rattle.core_disk.specs.Opened.{Opened}
 use Rattle.core_disk.specs.Areas.{Areas, file_gives}
 use Rattle.core_disk.specs.Standing.{IsOpenedAs, HasBlocks, StandsFor}
-use Rattle.core_disk.specs.Plans.{Part, laid, TornBy, Plans}
+use Rattle.core_disk.specs.Plans.{Part, laid, TornBy}
 
 -- The disk of a core in hand, of which this is the place in the change file, stands for a whole content now and after each crash:
 -- the file, behind whose entries the place is, is there in each; each held block stands at its offset in each; and the areas that
@@ -80,3 +80,9 @@ pub record Commits {T E : Type 0} (accepts : List ℕ → List ℕ → Bool) (id
       → NoChance (next_frame file (entry_spelling e) ∷ []) (old.reads Oplog) (areas Oplog)
       → StandsFor accepts id areas m ⊎ StandsFor accepts id areas after
   pub ok : OnOk answer (IsFirmFor accepts id new place after)
+
+-- the disk stands for the content, as it reads and after each crash
+pub record StandsFirmly (accepts : List ℕ → List ℕ → Bool) (id : List ℕ) (disk : DiskView) (m : Content) : Type 0 where
+  pub honest : disk.honest ≡ true
+  pub reads : StandsFor accepts id disk.reads m
+  pub images : (areas : Areas) → IsImage disk disk.moment areas → StandsFor accepts id areas m

@@ -20,3 +20,5 @@ pub mod Bringing
 pub mod Changing
 pub mod Filling
 pub mod Parts
+pub mod Rooms
+pub mod Handed

@@ -1,5 +1,5 @@
 -- What a core has of its disk: the disk and what is in memory of it, as a content and as a view of that.
-use Rattle.std.specs.Prelude.{ℕ, Bool, true, false, List, [], Option, ◌&&◌, if◌then◌else◌}
+use Rattle.std.specs.Prelude.{ℕ, Bool, List, [], Option, ◌&&◌, if◌then◌else◌}
 use Rattle.disk_trait.specs.Disk.{DiskView}
 use Rattle.disk_trait.specs.declared.disk.Area.TheVariants.{Blocks as BlocksArea}
 use Rattle.node_set.specs.declared.fault.CoreFault.{CoreFault}
@@ -37,3 +37,7 @@ stored_view disk hand answered last = record {
   answered = answered;
   last = last;
 }
+
+-- the same with a count of faults of its own, over which a change is planned
+abbrev pub planned_view : DiskView → InHand → ℕ → Option CoreFault → ℕ → ViewState
+planned_view disk hand answered last faults = record (stored_view disk hand answered last) { faults = faults }

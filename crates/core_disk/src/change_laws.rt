@@ -7,10 +7,11 @@ ghost use Rattle.oplog_form.specs.declared.entry.Entry.{Entry};
 ghost use Rattle.oplog_file.specs.Writers.{Place, Stands};
 ghost use Rattle.node_set.specs.declared.fault.CoreFault.{CoreFault};
 ghost use Rattle.node_set.specs.Contents.{Content};
+ghost use Rattle.core_state.specs.Handing.{SameDisk};
 ghost use Rattle.core_disk.specs.Areas.{Areas};
 ghost use Rattle.core_disk.specs.Standing.{StandsFor};
 ghost use Rattle.core_disk.specs.Plans.{Part};
-ghost use Rattle.core_disk.specs.Firm.{IsFirmFor, Commits};
+ghost use Rattle.core_disk.specs.Firm.{IsFirmFor, Commits, StandsFirmly};
 ghost use Rattle.core_disk.specs.Changing.{MakesChange, IsLeftBetween};
 
 use disk_trait::Disk;
@@ -30,6 +31,19 @@ pub fn a_firm_disk_stands<D: Disk>()
     ensures there { (accepts : List ℕ → List ℕ → Bool) → (id : List ℕ) → (disk : D)
         → (place now : Place) → (m : Content) → IsFirmFor accepts id (D.disk disk) place m
         → Stands place now → IsFirmFor accepts id (D.disk disk) now m }
+{}
+
+/// A firm disk stands for its content, as it reads and after each crash, and so does a disk that is as it was.
+pub fn a_firm_disk_stands_firmly<D: Disk>()
+    ensures firmly { (accepts : List ℕ → List ℕ → Bool) → (id : List ℕ) → (disk : D) → (place : Place)
+        → (m : Content) → IsTrue (D.disk disk).honest → IsFirmFor accepts id (D.disk disk) place m
+        → StandsFirmly accepts id (D.disk disk) m }
+    ensures same { (accepts : List ℕ → List ℕ → Bool) → (id : List ℕ) → (old new : D) → (m : Content)
+        → SameDisk (D.disk old) (D.disk new) → StandsFirmly accepts id (D.disk old) m
+        → StandsFirmly accepts id (D.disk new) m }
+    ensures same_reads { (accepts : List ℕ → List ℕ → Bool) → (id : List ℕ) → (old new : D)
+        → (m : Content) → SameDisk (D.disk old) (D.disk new) → StandsFor accepts id (D.disk old).reads m
+        → StandsFor accepts id (D.disk new).reads m }
 {}
 
 /// A change of a firm disk leaves at each moment the content before it or the one after it, and after Ok a disk that is firm

@@ -1,25 +1,29 @@
 //! A core over a disk.
-ghost use Rattle.std.specs.Prelude.{◌≡◌, ◌≤◌, length, IsTrue, true};
+ghost use Rattle.std.specs.Prelude.{◌≡◌, ◌≤◌, ℕ, Some, Err, length, IsTrue, IfOk, IsErrOf, true};
 ghost use Rattle.flat_tree.specs.declared.limits.TheConstants.{MAX_BLOCK_BYTES};
 ghost use Rattle.proof_form.specs.Requests.{RequestFits};
+ghost use Rattle.outside_traits.specs.Faults.{Rose};
+ghost use Rattle.node_set.specs.declared.fault.CoreFault.TheVariants.{Broken, StoreFault};
 ghost use Rattle.node_set.specs.Views.{IsUsable};
 ghost use Rattle.node_set.specs.Whole.{IsWhole};
 ghost use Rattle.core_state.specs.Events.{Make, Get, Need, Page, proof_in};
 ghost use Rattle.core_state.specs.Events.Reply.{Made, Read, Number, Bits};
 ghost use Rattle.core_state.specs.Next.{answer_in, page_in};
 ghost use Rattle.core_state.specs.Calls.{Acts};
-ghost use Rattle.core_state.specs.States.{info_of};
+ghost use Rattle.core_state.specs.States.{info_of, receipt_of};
 ghost use Rattle.core_disk.specs.InHand.{IsKept, opened_of};
 ghost use Rattle.core_disk.specs.Laid.{IsRooted};
 ghost use Rattle.core_disk.specs.Stored.{content_of};
-ghost use Rattle.core_disk.specs.Cored.{core_state};
+ghost use Rattle.core_disk.specs.Cored.{state_of, shown};
 
 use crate::store::Store;
 use bit_field::PAGE_BYTES;
+use commit_book::Commit;
 use core_snap::{ReadAt, read_held};
 use disk_trait::Disk;
-use merkle_nodes::{Info, root_hash};
-use node_set::{CoreFault, need};
+use merkle_batch::Batch;
+use merkle_nodes::{Info, Node, root_hash};
+use node_set::{CoreFault, Receipt, need};
 use oplog_file::OplogFile;
 use outside_traits::Signer;
 use proof_form::{Proof, Request};
@@ -33,6 +37,10 @@ pub struct DiskCore<D: Disk, A: Signer> {
     pub(crate) file: OplogFile,
     pub(crate) auth: A,
     pub(crate) broken: Option<u64>,
+    // Room for a batch, for an entry's records and for its bytes.
+    pub(crate) batch: Batch,
+    pub(crate) records: Vec<Node>,
+    pub(crate) scratch: Vec<u8>,
 }
 
 impl<D: Disk, A: Signer> Model for DiskCore<D, A> {
@@ -41,6 +49,10 @@ impl<D: Disk, A: Signer> Model for DiskCore<D, A> {
     ghost Value = { Cored D A };
 
     ghost view = { λ core. record { store = core.store; place = core.file; auth = core.auth; broken = core.broken } };
+
+    ghost use Rattle.core_disk.specs.Rooms.{HasRooms};
+
+    ghost invariant = { λ core. HasRooms core.batch core.records core.scratch };
 }
 
 impl<D: Disk, A: Signer> DiskCore<D, A> {
@@ -68,13 +80,25 @@ impl<D: Disk, A: Signer> DiskCore<D, A> {
         }
     }
 
+    // What a change tells that committed this.
+    pub(crate) fn receipt(&self, commit: Option<Commit>) -> Receipt
+        ensures { result ≡ receipt_of (content_of (D.disk self.now.store.disk) self.now.store.hand) commit }
+    {
+        let state = self.store.known();
+        Receipt {
+            fork: state.head.fork,
+            length: state.head.length,
+            root: root_hash(&state.roots),
+            commit,
+        }
+    }
+
     /// The head in short. With it comes what every core keeps.
     pub fn info(&self) -> Info
-        ensures info { result ≡ info_of (content_of (D.disk self.now.store.disk) self.now.store.hand) }
-        ensures usable { IsUsable (content_of (D.disk self.now.store.disk) self.now.store.hand) }
-        ensures whole { IsTrue (core_state (A.accepts self.now.auth) (D.disk self.now.store.disk)
-            self.now.store.hand self.now.broken).stands
-            → IsWhole (A.accepts self.now.auth) (content_of (D.disk self.now.store.disk) self.now.store.hand) }
+        ensures info { result ≡ info_of (shown D.disk self.now) }
+        ensures usable { IsUsable (shown D.disk self.now) }
+        ensures whole { IsTrue (state_of D.disk A.accepts self.now).stands
+            → IsWhole (A.accepts self.now.auth) (shown D.disk self.now) }
     {
         let _ = self.failed_at();
         self.in_short()
@@ -92,11 +116,9 @@ impl<D: Disk, A: Signer> DiskCore<D, A> {
     pub fn make<'b>(&mut self, request: &Request, buf: &'b mut [u8]) -> Result<Proof<'b>, CoreFault>
         requires fits { RequestFits request.now }
         requires room { MAX_BLOCK_BYTES ≤ length buf.old }
-        ensures { Acts true
-            (core_state (A.accepts self.old.auth) (D.disk self.old.store.disk) self.old.store.hand self.old.broken)
-            (Make request.now)
-            (core_state (A.accepts self.new.auth) (D.disk self.new.store.disk) self.new.store.hand self.new.broken)
-            (Made (proof_in result)) }
+        ensures acts { Acts true (state_of D.disk A.accepts self.old) (Make request.now)
+            (state_of D.disk A.accepts self.new) (Made (proof_in result)) }
+        ensures broken { (count : ℕ) → self.old.broken ≡ Some count → result ≡ Err (Broken count) }
     {
         if let Some(count) = self.failed_at() {
             return Err(CoreFault::Broken { count });
@@ -108,11 +130,13 @@ impl<D: Disk, A: Signer> DiskCore<D, A> {
     /// `Unavailable` where the block isn't held; `StoreFault`, `BadStore`, `Damaged` where the disk fails or isn't the core's.
     pub fn get(&mut self, index: u64, buf: &mut [u8]) -> Result<ReadAt, CoreFault>
         requires room { MAX_BLOCK_BYTES ≤ length buf.old }
-        ensures { Acts true
-            (core_state (A.accepts self.old.auth) (D.disk self.old.store.disk) self.old.store.hand self.old.broken)
-            (Get index)
-            (core_state (A.accepts self.new.auth) (D.disk self.new.store.disk) self.new.store.hand self.new.broken)
-            (Read (answer_in buf.new result)) }
+        ensures acts { Acts true (state_of D.disk A.accepts self.old) (Get index)
+            (state_of D.disk A.accepts self.new) (Read (answer_in buf.new result)) }
+        ensures broken { (count : ℕ) → self.old.broken ≡ Some count → result ≡ Err (Broken count) }
+        ensures size { IfOk result (λ read. read.len ≤ MAX_BLOCK_BYTES) }
+        ensures place { length buf.new ≡ length buf.old }
+        ensures cause { IsErrOf result StoreFault
+            → Rose (D.disk self.old.store.disk).faults (D.disk self.new.store.disk).faults }
     {
         if let Some(count) = self.failed_at() {
             return Err(CoreFault::Broken { count });
@@ -122,11 +146,9 @@ impl<D: Disk, A: Signer> DiskCore<D, A> {
 
     /// How many siblings a block needs to be proved. `OutOfRange` at the length.
     pub fn need(&mut self, index: u64) -> Result<u64, CoreFault>
-        ensures { Acts true
-            (core_state (A.accepts self.old.auth) (D.disk self.old.store.disk) self.old.store.hand self.old.broken)
-            (Need index)
-            (core_state (A.accepts self.new.auth) (D.disk self.new.store.disk) self.new.store.hand self.new.broken)
-            (Number result) }
+        ensures acts { Acts true (state_of D.disk A.accepts self.old) (Need index)
+            (state_of D.disk A.accepts self.new) (Number result) }
+        ensures broken { (count : ℕ) → self.old.broken ≡ Some count → result ≡ Err (Broken count) }
     {
         if let Some(count) = self.failed_at() {
             return Err(CoreFault::Broken { count });
@@ -140,11 +162,9 @@ impl<D: Disk, A: Signer> DiskCore<D, A> {
 
     /// Which blocks of a page are held (`bit_field::Bits::page`); none past the length.
     pub fn bits(&mut self, number: u64, out: &mut [u8; PAGE_BYTES]) -> Result<(), CoreFault>
-        ensures { Acts true
-            (core_state (A.accepts self.old.auth) (D.disk self.old.store.disk) self.old.store.hand self.old.broken)
-            (Page number)
-            (core_state (A.accepts self.new.auth) (D.disk self.new.store.disk) self.new.store.hand self.new.broken)
-            (Bits (page_in out.new result)) }
+        ensures acts { Acts true (state_of D.disk A.accepts self.old) (Page number)
+            (state_of D.disk A.accepts self.new) (Bits (page_in out.new result)) }
+        ensures broken { (count : ℕ) → self.old.broken ≡ Some count → result ≡ Err (Broken count) }
     {
         if let Some(count) = self.failed_at() {
             return Err(CoreFault::Broken { count });

@@ -26,6 +26,8 @@ impl DiskState {
     /// Puts the roots among the nodes, and reads of the tree area each other node that is to be stored and has no record. After
     /// an `Err` some of them are there.
     pub(crate) fn fill<D: Disk>(&mut self, alloc: Global, disk: &mut D) -> Result<(), CoreFault>
+        ensures head { self.new.head ≡ self.old.head }
+        ensures roots { self.new.roots ≡ self.old.roots }
         ensures rooted { OnOk result (IsRooted (opened_of self.new)) }
         ensures fills { IsTrue (D.disk disk.old).honest → AreSmall (opened_of self.old).nodes
             → Fills ((D.disk disk.old).reads Tree) (opened_of self.old) (opened_of self.new) result }

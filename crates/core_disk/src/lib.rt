@@ -1,29 +1,37 @@
 //! A core over a disk (docs/FORMATS.md, "The change file"): its definitions and laws; how a disk is opened and made anew, and a
 //! core on it read; what each change is about to write, and how that is written so that a crash at each moment leaves the
-//! content before it or the one after it. No call changes a core on a disk so far.
+//! content before it or the one after it; and a core on a disk as every core.
 #![tactic(auto)]
 
+mod acting;
 mod admitting;
 mod appending;
 mod block_laws;
 mod change_laws;
+#[cfg(test)]
+mod change_tests;
+mod changes;
+mod committing;
 mod copies;
+#[cfg(test)]
+mod core_tests;
 mod cutting;
 mod disk_core;
 mod filling;
+#[cfg(test)]
+mod fuse_tests;
 mod handing;
 mod in_range;
 mod laid_laws;
 mod laws;
 mod layout;
+mod nodes;
 mod offsets;
 mod opening;
 #[cfg(test)]
 mod part_tests;
 mod parts;
 mod plan_laws;
-#[cfg(test)]
-mod plan_tests;
 mod putting;
 mod records;
 mod replay;
@@ -38,7 +46,7 @@ pub use block_laws::{
     a_torn_write_leaves_held_blocks, blocks_stand_after_each_change, held_blocks_stand_apart,
     offsets_stay_under_each_change,
 };
-pub use change_laws::{a_change_commits, a_firm_disk_stands};
+pub use change_laws::{a_change_commits, a_firm_disk_stands, a_firm_disk_stands_firmly};
 pub use disk_core::DiskCore;
 pub use laid_laws::{
     an_entry_that_follows_is_legal, what_is_laid_is_the_content, wholeness_in_words,

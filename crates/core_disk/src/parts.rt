@@ -46,6 +46,8 @@ pub(crate) fn open_parts<D: Disk, A: Verifier>(
 ) -> Result<(OplogFile, DiskState), CoreFault>
     ensures opens { IsTrue (D.disk disk.old).honest
         → OpensStore (A.accepts verifier.now) id.now (D.disk disk.old).reads result }
+    ensures signed { IfOk result (λ opened.
+        HasSignedHead (A.accepts verifier.now) (opened_of opened.1)) }
     ensures rooted { IfOk result (λ opened. IsRooted (opened_of opened.1)) }
     ensures firm { (m : Content) → IsTrue (D.disk disk.old).honest
         → StandsFor (A.accepts verifier.now) id.now (D.disk disk.old).reads m
@@ -107,6 +109,8 @@ fn open_synced<D: Disk, A: Verifier>(
 ) -> Result<(OplogFile, DiskState), CoreFault>
     ensures opens { IsTrue (D.disk disk.old).honest
         → OpensStore (A.accepts verifier.now) id.now (D.disk disk.old).reads result }
+    ensures signed { IfOk result (λ opened.
+        HasSignedHead (A.accepts verifier.now) (opened_of opened.1)) }
     ensures rooted { IfOk result (λ opened. IsRooted (opened_of opened.1)) }
     ensures firm { (m : Content) → IsTrue (D.disk disk.old).honest → IsSettled (D.disk disk.old)
         → StandsFor (A.accepts verifier.now) id.now (D.disk disk.old).reads m
@@ -290,6 +294,8 @@ fn finish<D: Disk, A: Verifier>(
     ensures place { IfOk result (λ opened. opened.0 ≡ file) }
     ensures cuts { (whole : File) → IsTrue (D.disk disk.old).honest → IsBehind file whole
         → CutsTail whole (D.disk disk.old) (D.disk disk.new) result }
+    ensures signed { IfOk result (λ opened.
+        HasSignedHead (A.accepts verifier.now) (opened_of opened.1)) }
     ensures rooted { IfOk result (λ opened. IsRooted (opened_of opened.1)) }
     ensures counts { KeepsCounts (D.disk disk.old) (D.disk disk.new) result }
 {
@@ -314,6 +320,7 @@ fn complete<D: Disk, A: Verifier>(
     ensures completes { IsTrue (D.disk disk.old).honest → AreSmall (opened_of state.old).nodes
         → Completes (A.accepts verifier.now) ((D.disk disk.old).reads Tree)
         (opened_of state.old) (opened_of state.new) result }
+    ensures signed { OnOk result (HasSignedHead (A.accepts verifier.now) (opened_of state.new)) }
     ensures rooted { OnOk result (IsRooted (opened_of state.new)) }
     ensures consults { Consults (D.disk disk.old) (D.disk disk.new) result }
 {

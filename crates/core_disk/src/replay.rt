@@ -7,6 +7,7 @@ ghost use Rattle.oplog_form.specs.Headers.{HeaderFits};
 ghost use Rattle.oplog_form.specs.Entries.{EntryFits};
 ghost use Rattle.core_disk.specs.Opened.{start_of, entry_after};
 ghost use Rattle.core_disk.specs.Following.{has_numbers};
+ghost use Rattle.core_disk.specs.Committing.{MakesReady};
 ghost use Rattle.core_disk.specs.InHand.{opened_of, IsKept, rootless, none_held, Agrees, Applies, NextRoots, HavePlaces};
 
 use crate::in_range::{hold, is_in_range, numbers_after};
@@ -99,6 +100,21 @@ impl DiskState {
         Ok(())
     }
 
+    /// The roots after an entry that follows, once there is a place for each of its nodes. What is in memory stays.
+    pub(crate) fn ready(&mut self, alloc: Global, entry: &Entry<'_>) -> Result<Roots, ApplyFault>
+        requires fits { EntryFits entry.now }
+        ensures ready { MakesReady entry.now self.old self.new result }
+        ensures same { opened_of self.new ≡ opened_of self.old }
+    {
+        let Some(roots) = self.next_roots(entry) else {
+            return Err(ApplyFault::DoesntFollow);
+        };
+        match make_places(alloc, &entry.records, &mut self.nodes) {
+            Ok(()) => Ok(roots),
+            Err(Memory) => Err(ApplyFault::Memory),
+        }
+    }
+
     // The roots after an entry, where it follows.
     fn next_roots(&self, entry: &Entry<'_>) -> Option<Roots>
         requires fits { EntryFits entry.now }
@@ -114,8 +130,8 @@ impl DiskState {
         known_roots(&self.roots, &entry.records, entry.head.length)
     }
 
-    // Puts an entry in that follows, with the roots after it.
-    fn put(&mut self, entry: &Entry<'_>, roots: Roots)
+    /// Puts an entry in that follows, with the roots after it.
+    pub(crate) fn put(&mut self, entry: &Entry<'_>, roots: Roots)
         requires fits { EntryFits entry.now }
         requires next { NextRoots (opened_of self.old) entry.now (Found roots) }
         requires places { HavePlaces self.old.nodes entry.now.records }

@@ -151,8 +151,8 @@ fn clear_from(into: &mut [u8], n: usize)
     into[from..].fill(0);
 }
 
-// A node whose record in the tree area is bad.
-fn bad_record(index: u64) -> CoreFault
+/// A node whose record in the tree area is bad.
+pub(crate) fn bad_record(index: u64) -> CoreFault
     requires few { index < MAX_NODES }
     ensures { result ≡ BadStore Tree (NODE_BYTES * index) }
 {

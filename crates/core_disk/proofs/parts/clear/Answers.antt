@@ -1,4 +1,4 @@
-use Rattle.std.proofs.Common.{sym, subst, IsTrue, ◌∙◌}
+use Rattle.std.proofs.Common.{sym, subst, IsTrue}
 use Rattle.core_disk.proofs.PartLemmas.{rests_cleared, is_cleared}
 use Rattle.core_disk.proofs.parts.clear.Goals as goal
 

@@ -10,8 +10,8 @@ use Rattle.core_disk.proofs.CoredLemmas.{broken_acts}
 use Rattle.core_disk.proofs.ReadActs.{make_acts}
 use Rattle.core_disk.proofs.disk_core.DiskCore.make.Goals as goal
 
-pub returns-in-Some : goal.returns-in-Some
-returns-in-Some g c =
+pub returns-in-Some-clause-acts : goal.returns-in-Some-clause-acts
+returns-in-Some-clause-acts g c =
     let now = c.args.self.now in
     let accepts = g.A.Verifier.accepts now.auth in
     let disk = g.D.Disk.disk now.store.disk in
@@ -19,8 +19,8 @@ returns-in-Some g c =
     (sym c.in-Some.is ∙ c.failed_at.ensures.broken)
     (broken_acts accepts disk now.store.hand c.in-Some.count (Make c.args.request.now) (Made (Err (Broken c.in-Some.count))) c.failed_at.ensures.kept refl refl tt (λ new. refl))
 
-pub returns : goal.returns
-returns g c =
+pub returns-clause-acts : goal.returns-clause-acts
+returns-clause-acts g c =
     let inside = c.self.inside in
     let kept = subst (λ (core : Cored _ _). IsKept core.store.hand) (sym c.self.view_is) c.failed_at.ensures.kept in
     let none = sym c.failed_at.ensures.broken ∙ c.in_default.is in

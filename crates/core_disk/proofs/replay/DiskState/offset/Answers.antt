@@ -1,7 +1,7 @@
-use Rattle.std.proofs.Common.{◌≡◌, ◌≤◌, ◌*◌, ℕ, List, [], take, refl, sym, ap, subst, ◌∙◌, arith}
+use Rattle.std.proofs.Common.{◌≡◌, ◌≤◌, ℕ, List, [], take, refl, sym, ap, subst, ◌∙◌, arith}
 use Rattle.std.specs.List.{AllByRecursion}
 use Rattle.flat_tree.specs.Roots.{place_over, depth_over}
-use Rattle.flat_tree.specs.declared.limits.TheConstants.{MAX_CORE_BYTES, MAX_ROOTS, MAX_SIBLINGS}
+use Rattle.flat_tree.specs.declared.limits.TheConstants.{MAX_CORE_BYTES}
 use Rattle.merkle_nodes.specs.declared.node.Node.{Node}
 use Rattle.merkle_nodes.specs.declared.roots.Head.{Head}
 use Rattle.node_set.specs.Contents.{bytes_under, roots}

@@ -29,7 +29,7 @@ returns-then-size-gt-MAX_BLOCK_BYTES-clause-cause g c =
     let size = c.bytes_of-size.ensures.size fit 0 c.args.index (sym c.leaf_of_block-leaf.ensures.number) in
     omega (arith, size, c.if-size-gt-MAX_BLOCK_BYTES.true, block_fits disk seen c.args.index kept held stands) in
     rw (c.tell.ensures.told, c.tell.ensures.same, c.bad_record.ensures)
-    (bad_told disk now.hand now.answered now.last (NODE_BYTES * c.leaf_of_block-leaf.result) c.tell.ensures.more
+    (bad_told disk now.hand now.answered now.last disk.faults (NODE_BYTES * c.leaf_of_block-leaf.result) c.tell.ensures.more
     (subst (λ (hand : InHand). IsTrue (is_standing disk hand) → ⊥) same never))
 
 pub returns-in-Ok-clause-bytes : goal.returns-in-Ok-clause-bytes

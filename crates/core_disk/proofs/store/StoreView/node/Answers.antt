@@ -16,5 +16,5 @@ returns-in-None-clause-cause g c =
     let never = node_there disk seen c.args.index kept (λ depth offset is. sym (c.stores.ensures.closed depth offset is) ∙ c.if-not-stores.false)
     (c.fit_node.ensures.none c.in-None.is) in
     rw (c.tell.ensures.told, c.tell.ensures.same, c.bad_record.ensures)
-    (bad_told disk now.hand now.answered now.last (NODE_BYTES * c.args.index) c.tell.ensures.more
+    (bad_told disk now.hand now.answered now.last disk.faults (NODE_BYTES * c.args.index) c.tell.ensures.more
     (subst (λ (hand : InHand). IsTrue (is_standing disk hand) → ⊥) same never))

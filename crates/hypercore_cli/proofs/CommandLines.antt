@@ -1,5 +1,5 @@
 -- Which words are a command line.
-use Rattle.std.proofs.Common.{◌≡◌, ◌<◌, ℕ, true, false, ◌&&◌, not, eqb, List, [], ◌∷◌, length, codes, Result, Ok, Err, refl, sym, ap, subst, arith}
+use Rattle.std.proofs.Common.{◌≡◌, ◌<◌, ℕ, true, false, ◌&&◌, ◌||◌, not, eqb, List, [], ◌∷◌, length, codes, Result, Ok, Err, refl, sym, ap, subst, arith}
 use Rattle.std.specs.Prelude.{IsOk, String, string_bytes}
 use Rattle.std.specs.declared.alloc.Global.{Global}
 use Rattle.std.specs.Result.{result_ok, result_unwrap_or}
@@ -10,7 +10,7 @@ use Rattle.std.proofs.lemmas.List.Sums.{AllPass-from_list_all, list_all-from_All
 use Rattle.hex.specs.Hex.{is_hex_digit, decode_sized}
 use Rattle.hex.specs.declared.FromHexError.{FromHexError}
 use Rattle.hex.proofs.HexLemmas.{IsOk-decode_sized}
-use Rattle.hypercore_cli.specs.Words.{Slot, Key, Number, is_plain, fits_slot, fits_slots, is_well_formed}
+use Rattle.hypercore_cli.specs.Words.{Slot, Key, Name, Number, is_plain, fits_slot, fits_slots, is_well_formed}
 use Rattle.hypercore_cli.specs.Runs.{texts}
 use Rattle.hypercore_cli.specs.Commands.{fits, IsKeyOf}
 
@@ -48,8 +48,16 @@ fits_slots-length (slot ∷ slots) [] other = refl
 fits_slots-length (slot ∷ slots) (word ∷ words) other =
     and_right (is_plain word && fits_slot slot word) (fits_slots slots words) (fits_slots-length slots words (λ same. other (omega (arith, same))))
 
+-- another number of words is no row's
+row_others : (slots : List Slot) (words : List (String Global)) → (length words ≡ length slots → ⊥) → (fits_slots slots (texts words) || false) ≡ false
+row_others slots words other =
+    let same : length (texts words) ≡ length words = length-map words string_bytes in
+    or_from (fits_slots slots (texts words)) false (fits_slots-length slots (texts words) (λ as_many. other (omega (arith, same, as_many)))) refl
+
 -- another number of words behind `prove` is no command line
 pub prove_of_others : (words : List (String Global)) → (length words ≡ 2 → ⊥) → is_well_formed (codes "prove" ∷ texts words) ≡ false
-prove_of_others words other =
-    let same : length (texts words) ≡ length words = length-map words string_bytes in
-    or_from (fits_slots (Key ∷ Number ∷ []) (texts words)) false (fits_slots-length (Key ∷ Number ∷ []) (texts words) (λ two. other (omega (arith, same, two)))) refl
+prove_of_others words other = row_others (Key ∷ Number ∷ []) words other
+
+-- and so behind `get`
+pub get_of_others : (words : List (String Global)) → (length words ≡ 3 → ⊥) → is_well_formed (codes "get" ∷ texts words) ≡ false
+get_of_others words other = row_others (Key ∷ Name ∷ Number ∷ []) words other

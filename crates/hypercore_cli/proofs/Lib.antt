@@ -1,8 +1,17 @@
+mod AppendLaws
+mod BatchCuts
+mod BatchLemmas
 mod BundleReads
 mod CommandLines
+mod CommitLaws
 mod Digits
+mod ExtendLemmas
+mod GetLemmas
+mod InitLemmas
 mod LimitLemmas
+mod LineReads
 mod LogReads
 mod Numbers
+mod OpenedCores
 mod StandardFacts
 mod Verifiers

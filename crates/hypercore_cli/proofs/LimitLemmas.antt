@@ -36,7 +36,7 @@ first_or : (first then_a then_b : Option Limit) (limit : Limit) → (then_a ≡ 
 first_or None then_a then_b limit same passes = same passes
 first_or (Some other) then_a then_b limit same passes = passes
 
-length-concat : (log : List (List ℕ)) → length (concat log) ≡ bytes_of log
+pub length-concat : (log : List (List ℕ)) → length (concat log) ≡ bytes_of log
 length-concat [] = refl
 length-concat (line ∷ log) = length-append line (concat log) ∙ ap (λ n. length line + n) (length-concat log) ∙ sym (sum_by-cons length line log)
 

@@ -67,7 +67,7 @@ IsLogOf-end first now next_source lines next log has calls =
     (all.read, record { told = all.left; at_end = all.at_end; fits = ap (limit_in 0 0) (sym all.lines) ∙ has.fits }, all.lines)
 
 -- behind an end nothing is read, and nothing follows
-none_behind_end : (lines next : LinesView) (source : SourceView) (read left : List ℕ) → (read ≡ []) ⊎ IsWanted lines read → Ends source lines next → (IsTrue next.ended → left ≡ [])
+pub none_behind_end : (lines next : LinesView) (source : SourceView) (read left : List ℕ) → (read ≡ []) ⊎ IsWanted lines read → Ends source lines next → (IsTrue next.ended → left ≡ [])
     → IsTrue lines.ended → read ++ left ≡ []
 none_behind_end lines next source read left (inl none) ends may ended = rw (none, may (ends.kept ended)) refl
 none_behind_end lines next source read left (inr more) ends may ended = absurd (grind (arith, more.not_ended, ended))

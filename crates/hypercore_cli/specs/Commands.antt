@@ -4,7 +4,7 @@ use Rattle.std.specs.Result.{result_unwrap_or}
 use Rattle.hex.specs.Hex.{decode_sized}
 use Rattle.hypercore_cli.specs.Words.{Slot, Key, Number, is_plain, fits_slot, is_well_formed, number_of, word_at}
 use Rattle.hypercore_cli.specs.declared.command.Command.{Command}
-use Rattle.hypercore_cli.specs.declared.command.Command.TheVariants.{Check, Prove}
+use Rattle.hypercore_cli.specs.declared.command.Command.TheVariants.{Check, Prove, Init, Append, Get}
 
 -- the word can stand in the place
 abbrev pub fits : Slot → List ℕ → Bool
@@ -28,6 +28,10 @@ IsNumberOf word (Some number) = IsTrue (fits Number word) × (number ≡ number_
 abbrev pub Says : List (List ℕ) → Command → Type 0
 Says words (Check key) = (word_at 0 words ≡ codes "check") × (key ≡ key_of (word_at 1 words))
 Says words (Prove key index) = (word_at 0 words ≡ codes "prove") × (key ≡ key_of (word_at 1 words)) × (index ≡ number_of (word_at 2 words))
+Says words (Init key name) = (word_at 0 words ≡ codes "init") × (key ≡ key_of (word_at 1 words)) × (name.now ≡ word_at 2 words)
+Says words (Append key name) = (word_at 0 words ≡ codes "append") × (key ≡ key_of (word_at 1 words)) × (name.now ≡ word_at 2 words)
+Says words (Get key name index) =
+    (word_at 0 words ≡ codes "get") × (key ≡ key_of (word_at 1 words)) × (name.now ≡ word_at 2 words) × (index ≡ number_of (word_at 3 words))
 
 -- the words are no command line, or say this command
 abbrev pub IsCommandOf : List (List ℕ) → Option Command → Type 0

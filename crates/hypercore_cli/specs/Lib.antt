@@ -6,4 +6,11 @@ pub mod Checks
 pub mod LineLimits
 pub mod Proves
 pub mod Logs
+pub mod Faults
+pub mod Batches
+pub mod Appends
+pub mod Cores
+pub mod Inits
+pub mod Gets
+pub mod Extends
 pub mod Causes

@@ -8,7 +8,7 @@ use Rattle.merkle_batch.specs.Limits.{limit_of}
 use Rattle.merkle_batch.specs.Honest.{AppendsProof}
 use Rattle.merkle_nodes.specs.declared.limit.What.{What}
 use Rattle.hypercore_cli.specs.LineLimits.{limit_in}
-use Rattle.hypercore_cli.specs.Runs.{Run, NoOutput}
+use Rattle.hypercore_cli.specs.Runs.{Streams, NoOutput}
 use Rattle.hypercore_cli.specs.declared.outcome.Outcome.{Outcome}
 use Rattle.hypercore_cli.specs.declared.outcome.Outcome.TheVariants.{Done, ReadFault, WriteFault, OutOfRange, Limit, NoMemory}
 
@@ -45,7 +45,7 @@ ProvesBlock accepts log index output output_now NoMemory = Keeps output.holds ou
 ProvesBlock accepts log index output output_now outcome = ⊥
 
 -- when each end of `prove` with a key and an index comes, and what the output then has
-abbrev pub ProvesTo : Run → List ℕ → ℕ → Outcome → Type 0
+abbrev pub ProvesTo : Streams → List ℕ → ℕ → Outcome → Type 0
 ProvesTo r key index ReadFault = Rose r.input.faults r.input_now.faults × NoOutput r
 ProvesTo r key index (Limit what max) = PassesLimit r.input r.input_now what max × NoOutput r
 ProvesTo r key index NoMemory = NoOutput r

@@ -42,6 +42,7 @@ rows =
 -- the commands that are built so far
 abbrev pub is_built : Row → Bool
 is_built r = bytes_eq r.command (codes "check") || bytes_eq r.command (codes "prove")
+    || bytes_eq r.command (codes "init") || bytes_eq r.command (codes "append") || bytes_eq r.command (codes "get")
 
 -- a decimal digit
 abbrev pub is_digit : ℕ → Bool

@@ -1,6 +1,6 @@
 //! The command `check KEY`.
 ghost use Rattle.std.specs.Prelude.{◌<◌, ◌≤◌, ◌+◌};
-ghost use Rattle.hypercore_cli.specs.Runs.{run_of};
+ghost use Rattle.hypercore_cli.specs.Runs.{streams_of};
 ghost use Rattle.hypercore_cli.specs.Checks.{ChecksTo, ChecksBytes};
 
 use crate::outcome::Outcome;
@@ -17,7 +17,7 @@ pub fn check<K: Keys, I: Source, O: Sink>(
     input: &mut I,
     output: &mut O,
 ) -> Outcome
-    ensures { ChecksTo (run_of (K.key_accepts keys.now) (I.source input.old) (I.source input.new)
+    ensures { ChecksTo (streams_of (K.key_accepts keys.now) (I.source input.old) (I.source input.new)
         (O.sink output.old) (O.sink output.new)) key.now result }
 {
     check_within(alloc, MAX_BUNDLE_BYTES + 1, key, keys, input, output)
@@ -34,7 +34,7 @@ fn check_within<K: Keys, I: Source, O: Sink>(
 ) -> Outcome
     requires more { MAX_BUNDLE_BYTES < room }
     requires most { room ≤ MAX_BUNDLE_BYTES + 1 }
-    ensures { ChecksTo (run_of (K.key_accepts keys.now) (I.source input.old) (I.source input.new)
+    ensures { ChecksTo (streams_of (K.key_accepts keys.now) (I.source input.old) (I.source input.new)
         (O.sink output.old) (O.sink output.new)) key.now result }
 {
     let mut place = match Blob::zeros(alloc, room) {

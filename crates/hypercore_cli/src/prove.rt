@@ -1,7 +1,7 @@
 //! The command `prove KEY INDEX`.
 ghost use Rattle.std.specs.Prelude.{◌≡◌, None};
 ghost use Rattle.hypercore_cli.specs.LineLimits.{limit_in};
-ghost use Rattle.hypercore_cli.specs.Runs.{run_of};
+ghost use Rattle.hypercore_cli.specs.Runs.{streams_of};
 ghost use Rattle.hypercore_cli.specs.Proves.{ProvesTo, ProvesBlock};
 
 use crate::log::read_log;
@@ -20,7 +20,7 @@ pub fn prove<K: Keys, I: Source, O: Sink>(
     input: &mut I,
     output: &mut O,
 ) -> Outcome
-    ensures { ProvesTo (run_of (K.key_accepts keys.now) (I.source input.old) (I.source input.new)
+    ensures { ProvesTo (streams_of (K.key_accepts keys.now) (I.source input.old) (I.source input.new)
         (O.sink output.old) (O.sink output.new)) key.now index result }
 {
     match read_log(alloc, MAX_BLOCK_BYTES as usize, input) {

@@ -1,6 +1,13 @@
-//! The program over streams in memory. The bundles are those of samples/, made by another program.
+//! The program over a shelf and streams in memory. The bundles are those of samples/, made by another program.
+ghost use Rattle.std.specs.Prelude.{IfOk};
+ghost use Rattle.core_shelf.specs.Memory.{shelf_view_of};
+ghost use Rattle.hypercore_cli.specs.Runs.{AreHome};
+
 use super::*;
-use outside_traits::{Blob, MemSink, MemSource};
+use core_keys::{DEFAULT_NAMESPACE, discovery, name_key};
+use core_shelf::{MemShelf, Shelf};
+use disk_trait::{Area, Disk, Room};
+use outside_traits::{Blob, Keys, MemSink, MemSource};
 use std::alloc::Global;
 use std::test::Fail;
 
@@ -61,7 +68,26 @@ const NO_FAULTS: Faults = Faults {
     errors: None,
 };
 
+const ROOM: Room = Room {
+    bytes: 32_768,
+    journal: 65_536,
+};
+
 fn run_over(alloc: Global, words: &[&str], bytes: &[u8], faults: Faults) -> Result<Ran, Fail> {
+    run_on(alloc, &mut MemShelf::new(alloc, ROOM), words, bytes, faults)
+}
+
+// Runs on a shelf.
+fn run_on(
+    alloc: Global,
+    shelf: &mut MemShelf,
+    words: &[&str],
+    bytes: &[u8],
+    faults: Faults,
+) -> Result<Ran, Fail>
+    requires { AreHome (shelf_view_of shelf.old) }
+    ensures { AreHome (shelf_view_of shelf.new) }
+{
     let mut list = Vec::new(alloc);
     for word in words {
         list.push(String::from_str(alloc, word)?)?;
@@ -75,6 +101,7 @@ fn run_over(alloc: Global, words: &[&str], bytes: &[u8], faults: Faults) -> Resu
     let status = run::run(
         alloc,
         list.as_slice(),
+        shelf,
         &MacKeys,
         &mut input,
         &mut output,
@@ -121,6 +148,11 @@ fn words_that_are_no_command_line(rt: HostRuntime) -> Result<(), Fail> {
         ("prove", KEY, "01", 3),
         ("prove", KEY, "1000000000000000000", 3),
         ("--help", "", "", 1),
+        ("init", KEY, "", 2),
+        ("init", KEY, "", 3),
+        ("init", KEY, "-log", 3),
+        ("append", KEY, "", 2),
+        ("get", KEY, "log", 3),
     ] {
         let words = [first, second, third];
         let given = &words[..words.len().min(count)];
@@ -316,5 +348,160 @@ fn lines_of_the_longest_log_come_back(rt: HostRuntime) -> Result<(), Fail> {
         let back = gives_back(rt.alloc(), index, lines.as_slice(), line)?;
         assert!(rt; back, "line {index}");
     }
+    Ok(())
+}
+
+// The id of the core `log`, by another program.
+const ID: &str = "id f33e7949fb400accac5ba5d8d06d914e922a543d7d44b0e8e8b39935691473d6\n";
+
+// Runs a command on the core of a name, with an index or without.
+fn run_core(
+    alloc: Global,
+    shelf: &mut MemShelf,
+    words: [&str; 3],
+    bytes: &[u8],
+    faults: Faults,
+) -> Result<Ran, Fail>
+    requires { AreHome (shelf_view_of shelf.old) }
+    ensures { AreHome (shelf_view_of shelf.new) }
+{
+    let [command, name, index] = words;
+    if index.is_empty() {
+        return run_on(alloc, shelf, &[command, KEY, name], bytes, faults);
+    }
+    run_on(alloc, shelf, &[command, KEY, name, index], bytes, faults)
+}
+
+const INIT: [&str; 3] = ["init", "log", ""];
+
+const APPEND: [&str; 3] = ["append", "log", ""];
+
+const GET_FIRST: [&str; 3] = ["get", "log", "0"];
+
+// Commands over one shelf, in turn: their words and input, and what each comes to.
+#[test]
+fn a_core_of_a_name(rt: HostRuntime) -> Result<(), Fail> {
+    let alloc = rt.alloc();
+    let mut shelf = MemShelf::new(alloc, ROOM);
+    for (command, name, index, input, status, output, line) in [
+        ("get", "log", "0", "", 10, "", "no core\n"),
+        ("append", "log", "", "a", 10, "", "no core\n"),
+        ("init", "log", "", "", 0, ID, ""),
+        ("init", "log", "", "", 11, "", "core exists\n"),
+        ("get", "log", "0", "", 12, "", "out of range: 0\n"),
+        ("append", "log", "", "a\nb\n", 0, "length 2 fork 0\n", ""),
+        ("append", "log", "", "\nc", 0, "length 4 fork 0\n", ""),
+        ("append", "log", "", "", 0, "length 4 fork 0\n", ""),
+        ("get", "log", "1", "", 0, "b", ""),
+        ("get", "log", "2", "", 0, "", ""),
+        ("get", "log", "3", "", 0, "c", ""),
+        ("get", "log", "4", "", 12, "", "out of range: 4\n"),
+        ("get", "other", "0", "", 10, "", "no core\n"),
+    ] {
+        let words = [command, name, index];
+        let ran = run_core(alloc, &mut shelf, words, input.as_bytes(), NO_FAULTS)?;
+        assert_eq!(rt; ran.status, status, "{command} {index} on {input}");
+        assert!(rt;
+            holds(&ran.output, output.as_bytes()),
+            "{command} {index} on {input}"
+        );
+        assert!(rt;
+            holds(&ran.errors, line.as_bytes()),
+            "{command} {index} on {input}"
+        );
+    }
+    Ok(())
+}
+
+// A shelf, on which the core `log` was made or not. The call of this number is to fail.
+fn failing_shelf(alloc: Global, made: bool, call: u64) -> Result<MemShelf, Fail>
+    ensures { IfOk result (λ shelf. AreHome (shelf_view_of shelf)) }
+{
+    let mut shelf = MemShelf::new(alloc, ROOM);
+    if made {
+        run_core(alloc, &mut shelf, INIT, b"", NO_FAULTS)?;
+    }
+    shelf.plan_faults(planned(alloc, Some(call))?);
+    Ok(shelf)
+}
+
+// Each call of the shelf fails, counted from 0: whether an id is listed, taking a disk and marking an id. The same command
+// then does what it does on a core without blocks.
+#[test]
+fn each_fault_of_a_shelf(rt: HostRuntime) -> Result<(), Fail> {
+    let alloc = rt.alloc();
+    for (words, made, call, status) in [
+        (INIT, false, 0u64, 0),
+        (INIT, false, 1, 0),
+        (INIT, false, 2, 0),
+        (APPEND, true, 3, 0),
+        (APPEND, true, 4, 0),
+        (GET_FIRST, true, 3, 12),
+        (GET_FIRST, true, 4, 12),
+    ] {
+        let mut shelf = failing_shelf(alloc, made, call)?;
+        let ran = run_core(alloc, &mut shelf, words, b"", NO_FAULTS)?;
+        let command = words[0];
+        assert_eq!(rt; ran.status, 5, "{command} at {call}");
+        assert!(rt; holds(&ran.output, b""), "{command} at {call}");
+        assert!(rt; holds(&ran.errors, b"store fault\n"), "{command} at {call}");
+        let again = run_core(alloc, &mut shelf, words, b"", NO_FAULTS)?;
+        assert_eq!(rt; again.status, status, "{command} after {call}");
+    }
+    Ok(())
+}
+
+// A stream fails, or a line is too long: the status, and how a read of the first block then ends.
+#[test]
+fn each_fault_of_an_append(rt: HostRuntime) -> Result<(), Fail> {
+    let alloc = rt.alloc();
+    for (input, output, size, status, line, then) in [
+        (None, Some(0), 1usize, 4, "write fault\n", 0),
+        (Some(0), None, 1, 3, "read fault\n", 12),
+        (Some(1), None, 1, 3, "read fault\n", 12),
+        (None, None, 1_048_577, 14, "limit block: 1048576\n", 12),
+    ] {
+        let mut shelf = MemShelf::new(alloc, ROOM);
+        run_core(alloc, &mut shelf, INIT, b"", NO_FAULTS)?;
+        let faults = Faults {
+            input,
+            output,
+            errors: None,
+        };
+        let bytes = equal_lines(alloc, 1, size)?;
+        let ran = run_core(alloc, &mut shelf, APPEND, bytes.as_slice(), faults)?;
+        assert_eq!(rt; ran.status, status, "{line}");
+        assert!(rt; holds(&ran.output, b""), "{line}");
+        assert!(rt; holds(&ran.errors, line.as_bytes()), "{line}");
+        let read = run_core(alloc, &mut shelf, GET_FIRST, b"", NO_FAULTS)?;
+        assert_eq!(rt; read.status, then, "{line}");
+    }
+    Ok(())
+}
+
+// Empties the change file of an id's disk.
+fn empty_file(alloc: Global, shelf: &mut MemShelf, id: &[u8; 32]) -> bool
+    requires { AreHome (shelf_view_of shelf.old) }
+    ensures { AreHome (shelf_view_of shelf.new) }
+{
+    let Ok(mut disk) = shelf.take_disk(alloc, id) else {
+        return false;
+    };
+    let cut = disk.cut(Area::Oplog, 0);
+    shelf.give_disk(id, disk);
+    cut.is_ok()
+}
+
+#[test]
+fn a_core_without_its_change_file(rt: HostRuntime) -> Result<(), Fail> {
+    let alloc = rt.alloc();
+    let mut shelf = MemShelf::new(alloc, ROOM);
+    run_core(alloc, &mut shelf, INIT, b"", NO_FAULTS)?;
+    let key = name_key(&[0; 32], &DEFAULT_NAMESPACE, b"log");
+    let id = discovery(&MacKeys.public(&key));
+    assert!(rt; empty_file(alloc, &mut shelf, &id));
+    let read = run_core(alloc, &mut shelf, GET_FIRST, b"", NO_FAULTS)?;
+    assert_eq!(rt; read.status, 15);
+    assert!(rt; holds(&read.errors, b"bad store oplog at 0\n"));
     Ok(())
 }

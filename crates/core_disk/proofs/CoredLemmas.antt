@@ -16,10 +16,11 @@ use Rattle.node_set.specs.Contents.{Content, summary_of}
 use Rattle.node_set.specs.Walks.{KeepsView}
 use Rattle.node_set.specs.Whole.{IsWhole}
 use Rattle.core_state.specs.Events.{Event, Reply}
+use Rattle.core_state.specs.Events.Event.{Head, Append, Truncate, Clear, Admit, Make, Get, Need, Page}
 use Rattle.core_state.specs.Events.Reply.{Done}
 use Rattle.core_state.specs.States.{CoreState}
 use Rattle.core_state.specs.Next.{Next}
-use Rattle.core_state.specs.Calls.{Acts, Fails, IsSafe, IsOwnFault, IsChangeFault, KeepsHistory, commit_in, fault_in}
+use Rattle.core_state.specs.Calls.{Acts, Fails, IsSafe, IsOwnFault, IsChangeFault, KeepsHistory, is_change, commit_in, fault_in}
 use Rattle.merkle_nodes.specs.declared.node.Node.{Node}
 use Rattle.merkle_nodes.specs.declared.limit.What.{What}
 use Rattle.merkle_nodes.specs.declared.limit.What.TheVariants.{Oplog as EntriesBytes}
@@ -88,7 +89,7 @@ broken_acts accepts disk hand count event reply kept told none safe own = record
   whole = λ stands. (stands_told accepts disk hand (Some count) (bounded disk hand kept) stands).whole;
   history = rw none refl;
   safe = safe;
-  broken = λ other is. (is, refl, none);
+  broken = λ other is. let same : count ≡ other = cc in (is, refl, none, λ asks. told ∙ ap (λ (n : ℕ). Some (Broken n)) same);
 }
 
 -- a call that only reads
@@ -135,10 +136,22 @@ read_acts accepts old new hand after a b l k event reply kept keeps none next sa
 
 -- ---- changes
 
+-- only a change may find no memory
+may_change : (old new : CoreState) (event : Event) → IsOwnFault true old event new Memory → IsTrue (is_change event)
+may_change old new Head own = absurd own
+may_change old new (Append more) own = refl
+may_change old new (Truncate to fork) own = refl
+may_change old new (Clear from to) own = refl
+may_change old new (Admit p) own = refl
+may_change old new (Make request) own = absurd own
+may_change old new (Get index) own = absurd own
+may_change old new (Need index) own = absurd own
+may_change old new (Page number) own = absurd own
+
 -- A change failed: what is in memory is as it was, and each held block is where it was.
 pub fails_acts : (accepts : List ℕ → List ℕ → Bool) (old new : DiskView) (hand after : InHand) (now : Option ℕ) (event : Event) (fault : CoreFault)
     → IsKept hand → IsRooted (opened_of hand) → Agrees (opened_of after) (opened_of hand)
-    → new.honest ≡ old.honest → old.faults ≤ new.faults → ((now ≡ None) ⊎ Rose old.faults new.faults)
+    → new.honest ≡ old.honest → old.faults ≤ new.faults → ((now ≡ None) ⊎ (IsTrue (is_change event) × Rose old.faults new.faults))
     → (Stands accepts old hand → HasBlocks (blocks_area new) (content_of old hand))
     → IsOwnFault true (core_state accepts old hand None) event (core_state accepts new after now) fault
     → IsSafe (content_of old hand) event (Done (Err fault))
@@ -283,7 +296,7 @@ change_fault accepts old new hand after now e other kept fit why = absurd why
 pub unwritten_acts : (accepts : List ℕ → List ℕ → Bool) (old new : DiskView) (hand after : InHand) (now : Option ℕ) (e : Entry) (event : Event) (part : Option Part)
     (fault : CoreFault) → IsKept hand → IsRooted (opened_of hand)
     → (Stands accepts old hand → Plan accepts (content_of old hand) (opened_of hand) event e part) → opened_of after ≡ opened_of hand
-    → new.honest ≡ old.honest → old.faults ≤ new.faults → ((now ≡ None) ⊎ Rose old.faults new.faults)
+    → new.honest ≡ old.honest → old.faults ≤ new.faults → ((now ≡ None) ⊎ (IsTrue (is_change event) × Rose old.faults new.faults))
     → (IsTrue old.honest → TornBy part (old.reads BlocksArea) (new.reads BlocksArea)) → IsCommitFault e (opened_of hand) old new fault
     → (IsChangeFault true (core_state accepts old hand None) (core_state accepts new after now) fault
     → IsOwnFault true (core_state accepts old hand None) event (core_state accepts new after now) fault)
@@ -326,8 +339,8 @@ done_acts accepts old new hand after now e event part (Err fault) answer kept ke
     rw (tells.0)
     (unwritten_acts accepts old new hand after now e event part fault kept rooted plan takes calls.honest calls.kept breaks torn why (own fault) (safe _))
   where
-    breaks : (now ≡ None) ⊎ Rose old.faults new.faults
+    breaks : (now ≡ None) ⊎ (IsTrue (is_change event) × Rose old.faults new.faults)
     breaks = elim tells.1 [
-      | inl broke ↦ inr (calls.rose (ap Err broke.0))
+      | inl broke ↦ inr (may_change (core_state accepts old hand None) (core_state accepts new after now) event (own Memory refl), calls.rose (ap Err broke.0))
       | inr whole ↦ inl whole.1
     ]

@@ -23,8 +23,10 @@ pub mod AppendedBlocks
 pub mod ReorganisedBlocks
 pub mod Testing
 pub mod LaidLemmas
+pub mod FittingLemmas
 pub mod StoreLemmas
 pub mod CoredLemmas
+pub mod OnlyReading
 pub mod ReadActs
 pub mod ChangePlansMade
 pub mod ChangeWrites

@@ -40,6 +40,7 @@ use Rattle.core_disk.specs.Laid.{IsRooted}
 use Rattle.core_disk.specs.Stored.{blocks_area, content_of, is_standing, stored_view}
 use Rattle.core_disk.specs.Cored.{core_state}
 use Rattle.core_disk.proofs.LaidLemmas.{roots_in, held_in}
+use Rattle.core_disk.proofs.StoreLemmas.{same_content}
 use Rattle.core_disk.proofs.CoredLemmas.{read_acts}
 
 -- ---- in short
@@ -173,7 +174,7 @@ module _ (accepts : List ℕ → List ℕ → Bool) (old new : DiskView) (hand a
 
 module _ (accepts : List ℕ → List ℕ → Bool) (disk : DiskView) (hand : InHand) (kept : IsKept hand) where
   pub same_view : (a : ℕ) (l : Option CoreFault) → KeepsView (stored_view disk hand a l) (stored_view disk hand a l)
-  same_view a l = record { keeps = record { content = refl; stands = refl }; faults = omega arith; answered = omega arith }
+  same_view a l = record { keeps = same_content disk hand a a l l; faults = omega arith; answered = omega arith }
 
   -- an index past the end
   pub need_refused_acts : (index : ℕ) → hand.head.length ≤ index

@@ -1,7 +1,7 @@
 -- A disk that stands for a content, as it reads and after each crash.
-use Rattle.std.proofs.Common.{◌≡◌, ℕ, Bool, true, List, sym, ◌∙◌, subst}
+use Rattle.std.proofs.Common.{◌≡◌, ℕ, Bool, true, List, sym, ◌∙◌, subst, arith}
 use mathlib.Core.Path.{fun_ext}
-use Rattle.disk_trait.specs.Disk.{DiskView, MayStay}
+use Rattle.disk_trait.specs.Disk.{DiskView, Keeps, MayStay}
 use Rattle.oplog_file.specs.Writers.{Place}
 use Rattle.node_set.specs.Contents.{Content}
 use Rattle.core_state.specs.Handing.{SameDisk}
@@ -32,3 +32,12 @@ module _ (accepts : List ℕ → List ℕ → Bool) (id : List ℕ) (old new : D
         stands.images areas
         (λ area. subst (λ (t : ℕ). old.image t area (areas area)) same.moment ((same.images new.moment area (areas area)).0 (image area)));
   }
+
+-- so does one of which nothing was touched
+pub kept_firmly : (accepts : List ℕ → List ℕ → Bool) (id : List ℕ) (old new : DiskView) (m : Content) → new.honest ≡ old.honest → Keeps old new
+    → StandsFirmly accepts id old m → StandsFirmly accepts id new m
+kept_firmly accepts id old new m honest keeps stands = record {
+  honest = honest ∙ stands.honest;
+  reads = subst (λ (areas : Areas). StandsFor accepts id areas m) (sym (fun_ext (λ area. (keeps.each area).reads))) stands.reads;
+  images = λ areas image. stands.images areas (λ area. (keeps.each area).images new.moment (areas area) keeps.time.later (omega arith) (image area));
+}

@@ -35,10 +35,10 @@ unfolding each_below
 each_Decides passes P each n = Decides-below_and passes P (λ k. each_below k passes) each refl (λ k. refl) n
 
 -- what holds of each node of a depth and an offset below a length
-abbrev OfNodes : ℕ → (ℕ → ℕ → Type 0) → Type 0
+abbrev pub OfNodes : ℕ → (ℕ → ℕ → Type 0) → Type 0
 OfNodes n P = (depth : ℕ) → depth < n → (offset : ℕ) → offset < n → P depth offset
 
-nodes_Decides : (passes : ℕ → ℕ → Bool) (P : ℕ → ℕ → Type 0) → ((depth offset : ℕ) → Decides (passes depth offset) (P depth offset)) → (n : ℕ)
+pub nodes_Decides : (passes : ℕ → ℕ → Bool) (P : ℕ → ℕ → Type 0) → ((depth offset : ℕ) → Decides (passes depth offset) (P depth offset)) → (n : ℕ)
     → Decides (each_node n passes) (OfNodes n P)
 nodes_Decides passes P each n =
     each_Decides (λ depth. each_below n (passes depth)) (λ depth. (offset : ℕ) → offset < n → P depth offset)
@@ -55,7 +55,7 @@ place_below n depth offset within =
 
 -- ---- nodes and blocks that agree
 
-Decides-le : (a b : ℕ) → Decides (nat_le a b) (a ≤ b)
+pub Decides-le : (a b : ℕ) → Decides (nat_le a b) (a ≤ b)
 Decides-le a b = (leb-true a b, le-leb a b)
 
 Decides-eq : (a b : ℕ) → Decides (nat_eq a b) (a ≡ b)

@@ -1,6 +1,8 @@
 -- The content that a core's disk has: of what was opened, and of the bytes of its blocks area.
-use Rattle.std.specs.Prelude.{◌≡◌, ℕ, List, Some, None, [], if◌then◌else◌}
-use Rattle.node_set.specs.Contents.{Content, twig_at, roots_at}
+use Rattle.std.specs.Prelude.{◌≡◌, ◌≤◌, ℕ, List, Some, None, [], if◌then◌else◌}
+use Rattle.flat_tree.specs.declared.limits.TheConstants.{MAX_CORE_BYTES}
+use Rattle.merkle_nodes.specs.declared.node.Twig.{Twig}
+use Rattle.node_set.specs.Contents.{Content, Values, twig_at, roots_at}
 use Rattle.node_set.specs.Closure.{closed_on}
 use Rattle.node_set.specs.Offsets.{offset_of}
 use Rattle.core_disk.specs.Opened.{Opened}
@@ -29,6 +31,10 @@ content_in area o = record {
   block = λ index. if o.held index then Some (block_in area (outline o) index) else None;
   node = closed_on o.head.length o.held o.nodes;
 }
+
+-- no node is larger than a core
+abbrev pub SizesFit : Values → Type 0
+SizesFit node = (depth offset : ℕ) (twig : Twig) → node depth offset ≡ Some twig → twig.size ≤ MAX_CORE_BYTES
 
 -- each root is among the nodes
 abbrev pub IsRooted : Opened → Type 0

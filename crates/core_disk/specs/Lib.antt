@@ -10,12 +10,14 @@ pub mod Starting
 pub mod Replaying
 pub mod Laid
 pub mod Testing
+pub mod Fitting
 pub mod Plans
 pub mod Planning
 pub mod Firm
 pub mod Committing
 pub mod Stored
 pub mod Cored
+pub mod Reading
 pub mod Bringing
 pub mod Changing
 pub mod Filling

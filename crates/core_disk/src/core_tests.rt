@@ -18,6 +18,9 @@ const ROOM: Room = Room {
     journal: 4_096,
 };
 
+// How many calls of a disk of two blocks come before the first read of its opened core.
+const FIRST_READ: u64 = 26;
+
 // The core's id.
 const ID: [u8; 32] = [7; 32];
 
@@ -73,6 +76,33 @@ fn byte_of(
         Ok(read) if read.len == 1 => Ok((place.bytes()[0], read.trail.len())),
         _ => Err(Fail::new("no byte")),
     }
+}
+
+// Whether the first of two reads of a block fails by the disk, and the second gives it.
+fn fails_once(
+    core: &mut DiskCore<MemDisk, Anyone>,
+    alloc: Global,
+    room: usize,
+) -> Result<(bool, bool), Fail>
+    requires room { MAX_BLOCK_BYTES ≤ room }
+{
+    let mut place = Blob::zeros(alloc, room)?;
+    let failed = core.get(1, place.bytes_mut()).err() == Some(CoreFault::StoreFault);
+    Ok((failed, core.get(1, place.bytes_mut()).is_ok()))
+}
+
+#[test]
+fn a_failed_read_leaves_the_core(rt: HostRuntime) -> Result<(), Fail> {
+    let alloc = rt.alloc();
+    let mut disk = two_blocks(alloc)?;
+    // the first call after opening
+    disk.plan_faults([FIRST_READ].to_vec(alloc)?);
+    let mut core = opened(alloc, disk)?;
+    assert_eq!(rt;
+        fails_once(&mut core, alloc, MAX_BLOCK_BYTES as usize)?,
+        (true, true)
+    );
+    Ok(())
 }
 
 #[test]

@@ -1,9 +1,8 @@
 //! A core over a disk.
-ghost use Rattle.std.specs.Prelude.{◌≡◌, ◌≤◌, ℕ, Some, Err, length, IsTrue, IfOk, IsErrOf, true};
+ghost use Rattle.std.specs.Prelude.{◌≡◌, ◌≤◌, ℕ, Some, Err, length, IsTrue, IfOk, true};
 ghost use Rattle.flat_tree.specs.declared.limits.TheConstants.{MAX_BLOCK_BYTES};
 ghost use Rattle.proof_form.specs.Requests.{RequestFits};
-ghost use Rattle.outside_traits.specs.Faults.{Rose};
-ghost use Rattle.node_set.specs.declared.fault.CoreFault.TheVariants.{Broken, StoreFault};
+ghost use Rattle.node_set.specs.declared.fault.CoreFault.TheVariants.{Broken};
 ghost use Rattle.node_set.specs.Views.{IsUsable};
 ghost use Rattle.node_set.specs.Whole.{IsWhole};
 ghost use Rattle.core_state.specs.Events.{Make, Get, Need, Page, proof_in};
@@ -15,6 +14,7 @@ ghost use Rattle.core_disk.specs.InHand.{IsKept, opened_of};
 ghost use Rattle.core_disk.specs.Laid.{IsRooted};
 ghost use Rattle.core_disk.specs.Stored.{content_of};
 ghost use Rattle.core_disk.specs.Cored.{state_of, shown};
+ghost use Rattle.core_disk.specs.Reading.{OnlyReads, ReadsBlock};
 
 use crate::store::Store;
 use bit_field::PAGE_BYTES;
@@ -118,6 +118,7 @@ impl<D: Disk, A: Signer> DiskCore<D, A> {
         requires room { MAX_BLOCK_BYTES ≤ length buf.old }
         ensures acts { Acts true (state_of D.disk A.accepts self.old) (Make request.now)
             (state_of D.disk A.accepts self.new) (Made (proof_in result)) }
+        ensures leaves { OnlyReads D.disk self.old self.new }
         ensures broken { (count : ℕ) → self.old.broken ≡ Some count → result ≡ Err (Broken count) }
     {
         if let Some(count) = self.failed_at() {
@@ -132,11 +133,11 @@ impl<D: Disk, A: Signer> DiskCore<D, A> {
         requires room { MAX_BLOCK_BYTES ≤ length buf.old }
         ensures acts { Acts true (state_of D.disk A.accepts self.old) (Get index)
             (state_of D.disk A.accepts self.new) (Read (answer_in buf.new result)) }
+        ensures leaves { OnlyReads D.disk self.old self.new }
         ensures broken { (count : ℕ) → self.old.broken ≡ Some count → result ≡ Err (Broken count) }
         ensures size { IfOk result (λ read. read.len ≤ MAX_BLOCK_BYTES) }
         ensures place { length buf.new ≡ length buf.old }
-        ensures cause { IsErrOf result StoreFault
-            → Rose (D.disk self.old.store.disk).faults (D.disk self.new.store.disk).faults }
+        ensures ends { ReadsBlock D.disk self.old self.new index buf.new result }
     {
         if let Some(count) = self.failed_at() {
             return Err(CoreFault::Broken { count });
@@ -148,6 +149,7 @@ impl<D: Disk, A: Signer> DiskCore<D, A> {
     pub fn need(&mut self, index: u64) -> Result<u64, CoreFault>
         ensures acts { Acts true (state_of D.disk A.accepts self.old) (Need index)
             (state_of D.disk A.accepts self.new) (Number result) }
+        ensures leaves { OnlyReads D.disk self.old self.new }
         ensures broken { (count : ℕ) → self.old.broken ≡ Some count → result ≡ Err (Broken count) }
     {
         if let Some(count) = self.failed_at() {
@@ -164,6 +166,7 @@ impl<D: Disk, A: Signer> DiskCore<D, A> {
     pub fn bits(&mut self, number: u64, out: &mut [u8; PAGE_BYTES]) -> Result<(), CoreFault>
         ensures acts { Acts true (state_of D.disk A.accepts self.old) (Page number)
             (state_of D.disk A.accepts self.new) (Bits (page_in out.new result)) }
+        ensures leaves { OnlyReads D.disk self.old self.new }
         ensures broken { (count : ℕ) → self.old.broken ≡ Some count → result ≡ Err (Broken count) }
     {
         if let Some(count) = self.failed_at() {

@@ -38,6 +38,7 @@ mod replay;
 mod store;
 #[cfg(test)]
 mod tests;
+mod viewing;
 #[cfg(test)]
 mod write_tests;
 mod writing;

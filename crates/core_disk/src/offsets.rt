@@ -1,5 +1,5 @@
 //! What is in memory of a core's disk, read by numbers: nodes that are to be stored, and where blocks begin.
-ghost use Rattle.std.specs.Prelude.{◌≡◌, ◌+◌, ◌*◌, ◌/◌, ◌^◌, ◌<◌, ◌≤◌, ℕ, None, Some, IfSome, IsTrue};
+ghost use Rattle.std.specs.Prelude.{◌≡◌, ◌+◌, ◌*◌, ◌/◌, ◌^◌, ◌<◌, ◌≤◌, ℕ, min, None, Some, IfSome, IsTrue};
 ghost use Rattle.std.specs.Option.{option_map};
 ghost use Rattle.bit_field.specs.Pages.{page_of};
 ghost use Rattle.bit_field.specs.Places.{has};
@@ -12,9 +12,8 @@ ghost use Rattle.node_set.specs.Contents.{bytes_under, twig_at};
 ghost use Rattle.node_set.specs.Closure.{in_closure};
 ghost use Rattle.node_set.specs.Offsets.{left_bytes, left_step, offset_of};
 ghost use Rattle.node_set.specs.Walks.{IsInTree};
-ghost use Rattle.node_set.specs.Whole.{NodesFit};
 ghost use Rattle.core_disk.specs.InHand.{opened_of};
-ghost use Rattle.core_disk.specs.Laid.{IsRooted, outline};
+ghost use Rattle.core_disk.specs.Laid.{IsRooted, SizesFit, outline};
 
 use crate::replay::{DiskState, MAX_NODES};
 use bit_field::PAGE_BYTES;
@@ -76,8 +75,8 @@ impl DiskState {
 
     /// The bytes under such a node, none where it isn't there, and no more than a core has.
     pub(crate) fn bytes_of(&self, index: u64) -> u64
-        ensures size { NodesFit (outline (opened_of self.now)).node → (depth offset : ℕ) → number depth offset ≡ index
-            → result ≡ (twig_at (outline (opened_of self.now)).node depth offset).size }
+        ensures size { (depth offset : ℕ) → number depth offset ≡ index
+            → result ≡ min (twig_at (outline (opened_of self.now)).node depth offset).size MAX_CORE_BYTES }
         ensures few { result ≤ MAX_CORE_BYTES }
     {
         match self.stored_node(index) {
@@ -90,7 +89,7 @@ impl DiskState {
     pub(crate) fn offset(&self, index: u64) -> u64
         requires within { index < self.now.head.length }
         requires rooted { IsRooted (opened_of self.now) }
-        ensures { NodesFit (outline (opened_of self.now)).node
+        ensures { SizesFit (outline (opened_of self.now)).node
             → result ≡ offset_of (outline (opened_of self.now)) index }
     {
         let (place, levels) = root_of_block(self.head().length, index);
@@ -101,7 +100,7 @@ impl DiskState {
     // The bytes of the left siblings on the way from a block's leaf to the root over it.
     fn left_of_path(&self, index: u64, levels: u32) -> u64
         requires fits { IsInTree index levels }
-        ensures bytes { NodesFit (outline (opened_of self.now)).node
+        ensures bytes { SizesFit (outline (opened_of self.now)).node
             → result ≡ left_bytes levels (outline (opened_of self.now)).node 0 index }
         ensures most { result ≤ levels * MAX_CORE_BYTES }
     {
@@ -115,7 +114,7 @@ impl DiskState {
     // The bytes of the left sibling of the node so many levels above a block's leaf, 0 at a left half.
     fn left_of_node(&self, index: u64, level: u32) -> u64
         requires fits { IsInTree index level }
-        ensures bytes { NodesFit (outline (opened_of self.now)).node
+        ensures bytes { SizesFit (outline (opened_of self.now)).node
             → result ≡ left_step (outline (opened_of self.now)).node level (index / 2 ^ level) }
         ensures most { result ≤ MAX_CORE_BYTES }
     {

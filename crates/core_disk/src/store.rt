@@ -13,7 +13,7 @@ ghost use Rattle.node_set.specs.Walks.{KeepsView};
 ghost use Rattle.core_disk.specs.InHand.{opened_of, IsKept};
 ghost use Rattle.core_disk.specs.Laid.{IsRooted, outline, block_in};
 ghost use Rattle.core_disk.specs.Areas.{read_at};
-ghost use Rattle.core_disk.specs.Stored.{stored_view, is_standing, blocks_area};
+ghost use Rattle.core_disk.specs.Stored.{view_of, is_showing, blocks_area};
 
 use crate::layout::NODE_BYTES;
 use crate::replay::{DiskState, MAX_NODES};
@@ -86,12 +86,8 @@ impl<D: Disk> Store<D> {
         ensures bytes { IsTrue (D.disk self.old.disk).honest → IfOk result (λ _.
             into.new ≡ read_at (blocks_area (D.disk self.old.disk)) at (count into.old)) }
         ensures place { count into.new ≡ count into.old }
-        ensures keeps { KeepsView
-            (stored_view (D.disk self.old.disk) self.old.hand self.old.answered self.old.last)
-            (stored_view (D.disk self.new.disk) self.new.hand self.new.answered self.new.last) }
-        ensures cause { HasViewCause
-            (stored_view (D.disk self.old.disk) self.old.hand self.old.answered self.old.last)
-            (stored_view (D.disk self.new.disk) self.new.hand self.new.answered self.new.last) result }
+        ensures keeps { KeepsView (view_of D.disk self.old) (view_of D.disk self.new) }
+        ensures cause { HasViewCause (view_of D.disk self.old) (view_of D.disk self.new) result }
     {
         match self.disk.read(Area::Blocks, at, into) {
             Ok(n) => {
@@ -107,15 +103,11 @@ impl<D: Disk> Store<D> {
         requires held { (opened_of self.old.hand).held index ≡ true }
         requires room { MAX_BLOCK_BYTES ≤ count out.old }
         ensures size { IfOk result (λ len. len ≤ MAX_BLOCK_BYTES) }
-        ensures bytes { IsTrue (is_standing (D.disk self.old.disk) self.old.hand) → IfOk result (λ len.
+        ensures bytes { IsTrue (is_showing (D.disk self.old.disk) self.old.hand) → IfOk result (λ len.
             take len out.new ≡ block_in (blocks_area (D.disk self.old.disk)) (outline (opened_of self.old.hand)) index) }
         ensures place { count out.new ≡ count out.old }
-        ensures keeps { KeepsView
-            (stored_view (D.disk self.old.disk) self.old.hand self.old.answered self.old.last)
-            (stored_view (D.disk self.new.disk) self.new.hand self.new.answered self.new.last) }
-        ensures cause { HasViewCause
-            (stored_view (D.disk self.old.disk) self.old.hand self.old.answered self.old.last)
-            (stored_view (D.disk self.new.disk) self.new.hand self.new.answered self.new.last) result }
+        ensures keeps { KeepsView (view_of D.disk self.old) (view_of D.disk self.new) }
+        ensures cause { HasViewCause (view_of D.disk self.old) (view_of D.disk self.new) result }
     {
         let known = self.known();
         let leaf = leaf_of_block(known, index);
@@ -163,7 +155,7 @@ pub(crate) fn bad_record(index: u64) -> CoreFault
 }
 
 impl<D: Disk> View for Store<D> {
-    ghost view = { λ store. stored_view (D.disk store.disk) store.hand store.answered store.last };
+    ghost view = { λ store. view_of D.disk store };
 
     fn head(&self) -> Head {
         self.known().head()
@@ -190,6 +182,7 @@ impl<D: Disk> View for Store<D> {
     }
 
     fn block(&mut self, index: u64, out: &mut [u8]) -> Result<usize, CoreFault> {
+        let _ = self.known();
         self.read_block(index, out)
     }
 }

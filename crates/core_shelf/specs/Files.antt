@@ -1,5 +1,6 @@
 -- What is seen of a folder of files and of a folder of cores: the counts, and nothing of what they hold.
 use Rattle.std.specs.Prelude.{ℕ, false, [], ⊤}
+use Rattle.disk_trait.specs.Past.{no_past}
 use Rattle.disk_trait.specs.Disk.{DiskView}
 use Rattle.core_shelf.specs.declared.files.FileDisk.{FileDisk}
 use Rattle.core_shelf.specs.declared.folder.FolderShelf.{FolderShelf}
@@ -7,7 +8,7 @@ use Rattle.core_shelf.specs.Shelf.{ShelfView}
 
 -- the disk of five files, of which so many calls were made and so many failed
 abbrev pub files_view : ℕ → ℕ → DiskView
-files_view calls faults = record { honest = false; reads = λ area. []; image = λ t area c. ⊤; moment = 0; faults = faults; calls = calls }
+files_view calls faults = record { honest = false; reads = λ area. []; image = λ t area c. ⊤; past = no_past; moment = 0; faults = faults; calls = calls }
 
 -- what is seen of the disk of five files
 abbrev pub files_view_of : FileDisk → DiskView

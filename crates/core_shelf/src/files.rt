@@ -118,6 +118,8 @@ impl Disk for FileDisk {
 
     ghost may_stay = { λ disk honest. cc };
 
+    ghost rests = { λ old new honest one. cc };
+
     fn read(&mut self, area: Area, at: u64, into: &mut [u8]) -> Result<usize, Failed> {
         let answer = read_full(self.of(area), at, into);
         self.count(answer)

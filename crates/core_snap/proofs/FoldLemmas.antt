@@ -88,6 +88,17 @@ IsHonestTop-start node index leaf there =
     let whole : index / 2 ^ 0 ≡ index = omega arith in
     record { trail_is = refl; top_is = ap (node 0) whole ∙ there }
 
+-- the siblings of one level more
+pub trail_at-more : (node : Values) (index level : ℕ) (trail : List Twig) (sibling : Twig) → twig_at node level (sibling_of (index / 2 ^ level)) ≡ sibling
+    → trail ≡ trail_at node 0 index level → trail ++ sibling ∷ [] ≡ trail_at node 0 index (level + 1)
+trail_at-more node index level trail sibling beside so_far =
+    let step = λ (l : ℕ). twig_at node (0 + l) (sibling_of (index / 2 ^ l)) in
+    let depth : 0 + level ≡ level = omega arith in
+    let last : step level ≡ sibling = ap (λ (d : ℕ). twig_at node d (sibling_of (index / 2 ^ level))) depth ∙ beside in
+    ap (λ (t : List Twig). t ++ sibling ∷ []) so_far
+    ∙ ap (λ (t : Twig). trail_at node 0 index level ++ t ∷ []) (sym last)
+    ∙ sym (map-range_with_len_more step 0 level level depth)
+
 module _ (index level : ℕ) (top next sibling : Node) (trail : List Twig)
     (twig_is : twig_of next ≡ join (index / 2 ^ level) (twig_of top) (twig_of sibling)) where
   -- one more
@@ -109,12 +120,8 @@ module _ (index level : ℕ) (top next sibling : Node) (trail : List Twig)
   pub IsHonestTop-more : (node : Values) → PairsAgree node → node level (sibling_of (index / 2 ^ level)) ≡ Some (twig_of sibling)
       → IsHonestTop node index level trail top → IsHonestTop node index (level + 1) (trail ++ twig_of sibling ∷ []) next
   IsHonestTop-more node agree beside so_far =
-      let step = λ (l : ℕ). twig_at node (0 + l) (sibling_of (index / 2 ^ l)) in
-      let depth : 0 + level ≡ level = omega arith in
-      let last : step level ≡ twig_of sibling = ap (λ (d : ℕ). twig_at node d (sibling_of (index / 2 ^ level))) depth ∙ rw beside refl in
-      let longer = map-range_with_len_more step 0 level level depth in
       let parent = pair_joined node agree level (index / 2 ^ level) (twig_of top) (twig_of sibling) so_far.top_is beside in
       record {
-        trail_is = ap (λ (t : List Twig). t ++ twig_of sibling ∷ []) so_far.trail_is ∙ ap (λ (t : Twig). trail_at node 0 index level ++ t ∷ []) (sym last) ∙ sym longer;
+        trail_is = trail_at-more node index level trail (twig_of sibling) (rw beside refl) so_far.trail_is;
         top_is = ap (node (level + 1)) (sym (shr-shr index level 1)) ∙ parent ∙ ap Some (sym twig_is);
       }

@@ -1,7 +1,7 @@
 -- What is stored on the way up from a held block.
 use Rattle.std.proofs.Common.{◌≡◌, ℕ, suc, Bool, true, List, length, take, Some, slice_get, option_map, refl, ◌+◌, ◌*◌, ◌/◌, ◌^◌, ◌<◌, ◌≤◌, sym, ap, subst, ◌∙◌, arith, None}
 use Rattle.std.specs.Str.{bytes_eq}
-use Rattle.std.proofs.lemmas.Bool.{and_parts, eqb-true}
+use Rattle.std.proofs.lemmas.Bool.{and_parts, eqb-true, lt-ltb}
 use Rattle.std.proofs.lemmas.Slice.Eq.{bytes_eq-Decides}
 use Rattle.std.specs.Prelude.{Option, nat_eq, Result, Ok, Err, IfOk}
 use Rattle.std.proofs.lemmas.Option.{slice_get-map}
@@ -23,6 +23,7 @@ use Rattle.node_set.proofs.PathLemmas.{root_over_stored}
 use Rattle.node_set.proofs.ClosureLemmas.{held_in_closure, halves_in_closure, true_closure}
 use Rattle.node_set.proofs.OffsetTruth.{path_within}
 use Rattle.core_snap.specs.declared.snapshot.ReadAt.{ReadAt}
+use Rattle.core_snap.specs.Reads.{read_over, read_of}
 
 -- the root over a block is within the length
 pub root_inside : (n : ℕ) (bits : ℕ → Bool) (index levels : ℕ) → index < n → levels ≡ depth_over n index → end_block_of levels (index / 2 ^ levels) ≤ n
@@ -55,14 +56,19 @@ stored_is (Some stored) twig is =
 found_twig : (node : Values) (depth offset : ℕ) (twig : Twig) → node depth offset ≡ Some twig → twig_at node depth offset ≡ twig
 found_twig node depth offset twig there = rw there refl
 
--- the content's root over a block is stored there
+-- the content's root over a block
+pub root_is : (m : Content) (place levels offset : ℕ) (root : Node) → slice_get (roots m) place ≡ Some root
+    → slice_get (full_roots_of m.length) place ≡ Some (subtree levels offset) → root ≡ node_at m.node levels offset
+root_is m place levels offset root at over =
+    let node = λ (tree : Subtree). node_at m.node tree.depth tree.offset in
+    some_same _ _ (sym at ∙ slice_get-map node (full_roots_of m.length) place ∙ ap (option_map node) over)
+
+-- is stored there
 pub root_stored : (m : Content) (place levels index : ℕ) (root : Node) → IsSound m → index < m.length → levels ≡ depth_over m.length index
     → slice_get (roots m) place ≡ Some root → slice_get (full_roots_of m.length) place ≡ Some (subtree levels (index / 2 ^ levels))
     → m.node levels (index / 2 ^ levels) ≡ Some (twig_of root)
 root_stored m place levels index root sound within is at over =
-    let node = λ (tree : Subtree). node_at m.node tree.depth tree.offset in
-    let same : root ≡ node_at m.node levels (index / 2 ^ levels) =
-    some_same _ _ (sym at ∙ slice_get-map node (full_roots_of m.length) place ∙ ap (option_map node) over) in
+    let same = root_is m place levels (index / 2 ^ levels) root at over in
     let there = some_of (m.node levels (index / 2 ^ levels)) (
     sound.closed levels (index / 2 ^ levels)
     ∙ ap (λ (d : ℕ). in_closure m.length (held m) d (index / 2 ^ d)) is
@@ -70,6 +76,15 @@ root_stored m place levels index root sound within is at over =
     ) in
     let twig = found_twig m.node levels (index / 2 ^ levels) there.0 there.1 in
     there.1 ∙ ap Some (sym (ap twig_of same ∙ twig))
+
+-- and a read up to it is one under the content's head
+pub read_of_over : (m : Content) (place levels index : ℕ) (root : Node) → index < m.length → levels ≡ depth_over m.length index
+    → slice_get (roots m) place ≡ Some root → slice_get (full_roots_of m.length) place ≡ Some (subtree levels (index / 2 ^ levels))
+    → read_over m root levels index ≡ read_of m index
+read_of_over m place levels index root within is at over =
+    ap (λ (r : Node). read_over m r levels index) (root_is m place levels (index / 2 ^ levels) root at over)
+    ∙ ap (λ (d : ℕ). read_over m (node_at m.node d (index / 2 ^ d)) d index) is
+    ∙ rw (lt-ltb index m.length within) refl
 
 -- a read that was folded is proved
 pub read_proves : (blocks : ℕ) (roots : List Node) (index levels : ℕ) (root : Node) (place : List ℕ) (result : Result ReadAt CoreFault)

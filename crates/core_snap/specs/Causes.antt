@@ -71,3 +71,8 @@ pub record IsStoreFault (old new : ViewState) (fault : CoreFault) : Type 0 where
 abbrev pub ReadsAs : ViewState → ViewState → List ℕ → Result Answer CoreFault → Result ReadAt CoreFault → Type 0
 ReadsAs old new place answer (Ok read) = answer ≡ Ok (record { block = take read.len place; trail = read.trail })
 ReadsAs old new place answer (Err fault) = (answer ≡ Err fault) ⊎ IsStoreFault old new fault
+
+-- a read answers as it is to, with the block at the front of the place, or the view told a fault in it
+abbrev pub ReadsKept : ViewState → ViewState → List ℕ → Result Answer CoreFault → Result ReadAt CoreFault → Type 0
+ReadsKept old new place answer (Ok read) = answer ≡ Ok (record { block = take read.len place; trail = read.trail })
+ReadsKept old new place answer (Err fault) = (answer ≡ Err fault) ⊎ TellsFault old new fault

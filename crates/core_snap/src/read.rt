@@ -9,13 +9,13 @@ ghost use Rattle.merkle_nodes.specs.Fold.{Proves, fold, fold_from, join};
 ghost use Rattle.merkle_nodes.specs.Bundle.{TwigFits};
 ghost use Rattle.node_set.specs.declared.fault.CoreFault.TheVariants.{Unavailable};
 ghost use Rattle.node_set.specs.declared.fault.CoreFault.{CoreFault as Fault};
-ghost use Rattle.node_set.specs.Contents.{held, roots};
+ghost use Rattle.node_set.specs.Contents.{held, roots, twig_at};
 ghost use Rattle.node_set.specs.Same.{is_stored_as};
 ghost use Rattle.node_set.specs.Paths.{trail_at, sibling_of};
 ghost use Rattle.node_set.specs.Views.{HasViewCause, TellsFault};
 ghost use Rattle.node_set.specs.Walks.{KeepsView};
-ghost use Rattle.core_snap.specs.Reads.{snap_read, get_of, answer_if};
-ghost use Rattle.core_snap.specs.Causes.{read_refusal, ReadFits, IsDamage, IsDamageUnder, FailsBy, IsStoreFault, ReadsAs};
+ghost use Rattle.core_snap.specs.Reads.{snap_read, get_of, answer_if, read_over, read_of};
+ghost use Rattle.core_snap.specs.Causes.{read_refusal, ReadFits, IsDamage, IsDamageUnder, FailsBy, IsStoreFault, ReadsAs, ReadsKept};
 ghost use Rattle.core_snap.specs.Ways.{IsStoredOver, IsWayUp, IsHonestTop};
 
 use crate::snapshot::{ReadAt, Snapshot};
@@ -36,6 +36,8 @@ pub fn read_held<V: View>(view: &mut V, index: u64, out: &mut [u8]) -> Result<Re
     ensures fits { IfOk result ReadFits }
     ensures content { let v = V.view view.old in IsTrue v.stands
         → ReadsAs v (V.view view.new) out.new (get_of v.content index) result }
+    ensures kept { let v = V.view view.old in IsTrue v.shows
+        → ReadsKept v (V.view view.new) out.new (read_of v.content index) result }
     ensures cause { let m = (V.view view.old).content in
         IfErr result (λ fault. FailsBy (V.view view.old) (V.view view.new)
         (read_refusal m.length (held m) index ≡ Some fault)
@@ -106,6 +108,8 @@ fn has_root<V: View>(view: &mut V, index: u64, levels: u32, root: &Node) -> Resu
         → end_block_of levels (index / 2 ^ levels) ≤ (V.view view.old).content.length) }
     ensures stored { let v = V.view view.old in IsTrue v.stands → IfOk result (λ has.
         has ≡ is_stored_as (v.content.node levels (index / 2 ^ levels)) (twig_of root.now)) }
+    ensures shown { let v = V.view view.old in IsTrue v.shows → IfOk result (λ has. IsTrue has
+        → twig_at v.content.node levels (index / 2 ^ levels) ≡ twig_of root.now) }
     ensures cause { HasViewCause (V.view view.old) (V.view view.new) result }
     ensures keeps { KeepsView (V.view view.old) (V.view view.new) }
 {
@@ -133,6 +137,8 @@ fn read_up<V: View>(
     ensures content { let v = V.view view.old in IsTrue v.stands
         → ReadsAs v (V.view view.new) out.new (answer_if true (v.content.block index)
         (trail_at v.content.node 0 index levels) index) result }
+    ensures kept { let v = V.view view.old in IsTrue v.shows
+        → ReadsKept v (V.view view.new) out.new (read_over v.content root.now levels index) result }
     ensures cause { IfErr result (λ fault. TellsFault (V.view view.old) (V.view view.new) fault
         ⊎ IsDamage root.now levels index out.new fault) }
     ensures keeps { KeepsView (V.view view.old) (V.view view.new) }
@@ -172,6 +178,11 @@ fn read_leaf<V: View>(
     ensures size { IfOk result (λ read. read.0 ≤ MAX_BLOCK_BYTES) }
     ensures content { let v = V.view view.old in IsTrue v.stands
         → IfOk result (λ read. v.content.block index ≡ Some (take read.0 out.new)) }
+    ensures shown { let v = V.view view.old in IsTrue v.shows → IfOk result (λ read.
+        (v.content.block index ≡ Some (take read.0 out.new))
+        × (twig_at v.content.node 0 index ≡ leaf_of (take read.0 out.new))) }
+    ensures damaged { let v = V.view view.old in IsTrue v.shows → IfErr result (λ fault.
+        (read_over v.content root.now levels index ≡ Err fault) ⊎ TellsFault v (V.view view.new) fault) }
     ensures cause { IfErr result (λ fault. TellsFault (V.view view.old) (V.view view.new) fault
         ⊎ IsDamage root.now levels index out.new fault) }
     ensures honest { IsTrue (V.view view.old).stands
@@ -205,6 +216,8 @@ fn kept_leaf<V: View>(view: &mut V, index: u64, levels: u32, root: &Node) -> Res
     ensures number { IfOk result (λ kept. kept.index ≡ number 0 index) }
     ensures leaf { let v = V.view view.old in IsTrue v.stands
         → IfOk result (λ kept. v.content.node 0 index ≡ Some (twig_of kept)) }
+    ensures shown { let v = V.view view.old in IsTrue v.shows
+        → IfOk result (λ kept. twig_at v.content.node 0 index ≡ twig_of kept) }
     ensures cause { HasViewCause (V.view view.old) (V.view view.new) result }
     ensures keeps { KeepsView (V.view view.old) (V.view view.new) }
 {
@@ -236,6 +249,8 @@ fn fold_up<V: View>(
     ensures content { let v = V.view view.old in IsTrue v.stands
         → v.content.node 0 index ≡ Some (twig_of leaf.now)
         → IfOk result (IsHonestTop v.content.node index levels trail.new) }
+    ensures shown { let v = V.view view.old in IsTrue v.shows
+        → OnOk result (trail.new ≡ trail_at v.content.node 0 index levels) }
     ensures cause { HasViewCause (V.view view.old) (V.view view.new) result }
     ensures keeps { KeepsView (V.view view.old) (V.view view.new) }
 {
@@ -266,6 +281,8 @@ fn sibling_over<V: View>(
     ensures fits { IfOk result (λ node. TwigFits (twig_of node)) }
     ensures content { let v = V.view view.old in IsTrue v.stands → IfOk result (λ node.
         v.content.node level (sibling_of (index / 2 ^ level)) ≡ Some (twig_of node)) }
+    ensures shown { let v = V.view view.old in IsTrue v.shows → IfOk result (λ node.
+        twig_at v.content.node level (sibling_of (index / 2 ^ level)) ≡ twig_of node) }
     ensures cause { HasViewCause (V.view view.old) (V.view view.new) result }
     ensures keeps { KeepsView (V.view view.old) (V.view view.new) }
 {

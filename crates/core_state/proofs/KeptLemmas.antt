@@ -97,6 +97,7 @@ module _ (s : Stored) (kept : IsKept s) where
     gives_none by = record {
       closed = stored_at false by;
       content = λ stands depth offset there. rw (sym (by depth offset there)) refl;
+      shown = λ shows depth offset there. rw (sym (by depth offset there)) refl;
       numbered = λ node none. cc;
       size = λ node none. cc;
     }
@@ -120,6 +121,7 @@ module _ (s : Stored) (kept : IsKept s) where
         closed = λ depth offset there.
             sym (some_of_map found) ∙ ap (λ (o : Option Twig). is_some o) (found_node depth offset there) ∙ kept.sound.closed depth offset;
         content = λ stands. found_node;
+        shown = λ shows. found_node;
         numbered = λ node is. subst (λ (o : Option Node). IfSome o (λ (node : Node). node.index ≡ index)) is numbered;
         size = found_size;
       }
@@ -145,4 +147,5 @@ module _ (s : Stored) (kept : IsKept s) where
           size = block_size;
           within = omega (arith, length-append written rest, ap length copied);
           content = λ stands. ap (λ (t : Stored). (content_of t).block index) (sym is) ∙ shown_block ∙ ap Some (sym front);
+          shown = λ shows. ap (λ (t : Stored). (content_of t).block index) (sym is) ∙ shown_block ∙ ap Some (sym front);
         }

@@ -1,6 +1,6 @@
 -- What a call of a core promises: what follows its event, or a fault that no content tells of; and what every core keeps,
 -- whatever its disk gives.
-use Rattle.std.specs.Prelude.{◌≡◌, ℕ, Bool, false, ◌≤◌, ◌⊎◌, IsTrue, Option, Some, None, Ok, Err}
+use Rattle.std.specs.Prelude.{◌≡◌, ◌≢◌, ℕ, Bool, true, false, ◌≤◌, ◌⊎◌, IsTrue, Option, Some, None, Ok, Err}
 use Rattle.outside_traits.specs.Faults.{Rose}
 use Rattle.flat_tree.specs.declared.limits.TheConstants.{MAX_SIBLINGS, MAX_BLOCK_BYTES}
 use Rattle.bit_field.specs.declared.page.TheConstants.{PAGE_BYTES}
@@ -16,7 +16,7 @@ use Rattle.node_set.specs.Whole.{IsWhole}
 pub use Rattle.node_set.specs.Legal.{core_limits, KeepsHistory}
 use Rattle.proof_check.specs.Admission.{IsPlain}
 use Rattle.core_state.specs.Events.{Event, Reply}
-use Rattle.core_state.specs.Events.Event.{Append, Truncate, Clear, Admit, Make, Get, Need, Page}
+use Rattle.core_state.specs.Events.Event.{Head, Append, Truncate, Clear, Admit, Make, Get, Need, Page}
 use Rattle.core_state.specs.Events.Reply.{Done, Made, Read, Number, Bits}
 use Rattle.core_state.specs.States.{CoreState}
 use Rattle.core_state.specs.Next.{Next}
@@ -72,6 +72,14 @@ IsSafe m (Make request) (Made (Ok proof)) = ProofFits proof
 IsSafe m (Need index) (Number (Ok number)) = number ≤ MAX_SIBLINGS
 IsSafe m event reply = Unit {0}
 
+-- the event changes the core's content
+abbrev pub is_change : Event → Bool
+is_change (Append more) = true
+is_change (Truncate to fork) = true
+is_change (Clear from to) = true
+is_change (Admit p) = true
+is_change event = false
+
 -- the core stands as before, or it broke and its content stayed
 abbrev pub StaysUp : CoreState → CoreState → Type 0
 StaysUp old new = IsTrue new.stands ⊎ ((count : ℕ) × (new.broken ≡ Some count) × (new.content ≡ old.content))
@@ -81,18 +89,19 @@ pub record Acts (takes : Bool) (old : CoreState) (event : Event) (new : CoreStat
   -- the verifier and the kind of the core stay
   pub accepts : new.accepts ≡ old.accepts
   pub fills : new.fills ≡ old.fills
-  -- no fault is forgotten, and a core breaks only in one
+  -- no fault is forgotten, and a core breaks only in one, and only where it is to change
   pub faults : old.faults ≤ new.faults
-  pub breaks : (new.broken ≡ old.broken) ⊎ Rose old.faults new.faults
+  pub breaks : (new.broken ≡ old.broken) ⊎ (IsTrue (is_change event) × Rose old.faults new.faults)
   -- of a core that stands: what follows the event, or a fault of its own
   pub next : IsTrue old.stands → Next old.accepts old.content event new.content reply ⊎ Fails takes old event new reply
   pub stands : IsTrue old.stands → old.broken ≡ None → StaysUp old new
   -- one that stands has a whole content
   pub whole : IsTrue new.stands → IsWhole new.accepts new.content
-  -- of every core: a legal history, proved blocks, and once broken, always so
+  -- of every core: a legal history, proved blocks, and once broken, always so, with no other answer but the head's
   pub history : KeepsHistory old.content new.content (commit_in reply)
   pub safe : IsSafe old.content event reply
   pub broken : (count : ℕ) → old.broken ≡ Some count → (new.broken ≡ Some count) × (new.content ≡ old.content) × (commit_in reply ≡ None)
+      × (event ≢ Head → fault_in reply ≡ Some (Broken count))
 
 -- what an event needs, with a place of so many bytes: room for the largest block, or for a page; a request within its ranges; and
 -- so far a proof without a node or a sought byte

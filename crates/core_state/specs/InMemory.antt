@@ -35,7 +35,17 @@ pub record IsKept (stored : Stored) : Type 0 where
 
 -- as a view it stands, and never fails
 abbrev pub view_of : Stored → ViewState
-view_of stored = record { content = content_of stored; stands = true; faults = 0; answered = 0; last = None }
+view_of stored = record {
+  content = content_of stored;
+  stands = true;
+  shows = true;
+  past = None;
+  moment = 0;
+  faults = 0;
+  tells = λ fault. false;
+  answered = 0;
+  last = None;
+}
 
 -- the same with who signs for it
 pub record Owned (A : Type 0) : Type 0 where

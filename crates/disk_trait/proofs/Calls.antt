@@ -1,5 +1,5 @@
 -- What each exit of a call of a disk in memory owes, from what the call did to the steps.
-use Rattle.std.proofs.Common.{◌≡◌, ℕ, ◌+◌, ◌≤◌, List, [], ◌∷◌, Ok, Err, Result, refl, sym, subst, arith, length}
+use Rattle.std.proofs.Common.{◌≡◌, ℕ, ◌+◌, ◌≤◌, List, [], ◌∷◌, Ok, Err, refl, sym, subst, arith}
 use Rattle.disk_trait.specs.declared.disk.Area.{Area}
 use Rattle.disk_trait.specs.Disk.{DiskView, Torn, Cut, Touches, Keeps, Writes, Cuts, Syncs}
 use Rattle.disk_trait.specs.Contents.{Contents}

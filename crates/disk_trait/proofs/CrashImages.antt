@@ -1,11 +1,11 @@
 -- What a crash of a disk in memory leaves is one of the images of that moment.
-use Rattle.std.proofs.Common.{◌≡◌, ℕ, ◌-◌, ◌==◌, min, Bool, true, false, ◌&&◌, ◌||◌, MatchBool, if◌then◌else◌, List, [], ◌∷◌, ◌++◌, reverse, length, take, refl, sym, ◌∙◌, ap, subst, arith, append_assoc, length-take}
+use Rattle.std.proofs.Common.{◌≡◌, ℕ, ◌==◌, Bool, true, false, ◌&&◌, ◌||◌, MatchBool, if◌then◌else◌, List, [], ◌∷◌, ◌++◌, reverse, length, take, refl, sym, ◌∙◌, ap, subst, arith, append_assoc, length-take}
 use Rattle.std.proofs.lemmas.List.{reverse-append, reverse-reverse, append-nil}
 use Rattle.disk_trait.specs.declared.disk.Area.{Area}
-use Rattle.disk_trait.specs.Disk.{is_same, overlay, Torn, Cut, IsImage, IsSettled}
-use Rattle.disk_trait.specs.Contents.{Contents, content_of, with_content}
+use Rattle.disk_trait.specs.Disk.{is_same, Cut, IsImage, IsSettled}
+use Rattle.disk_trait.specs.Contents.{Contents, content_of}
 use Rattle.disk_trait.specs.History.{Change, wrote, cut_to, synced, Step, changed, after, now_of, until, Takes, Leaves, MemDiskView, disk_view_of}
-use Rattle.disk_trait.specs.Crash.{is_sync, is_synced_by, weight, partly, replayed, left_after, kept, crashed}
+use Rattle.disk_trait.specs.Crash.{is_sync, is_synced_by, partly, replayed, left_after, kept, crashed}
 use Rattle.disk_trait.specs.Overlays.{torn_overlay, cut_whole, cut_none}
 use Rattle.disk_trait.specs.Stays.{content_same, content_other, same_area, is_same_self, takes_now, leaves_now}
 

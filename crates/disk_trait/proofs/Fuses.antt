@@ -1,19 +1,14 @@
 -- A disk and a fuse over it show the same areas, images and clock.
-use Rattle.std.proofs.Common.{◌≡◌, ℕ, List, Result, refl, Ok, Err, sym, ◌∙◌, ap, subst}
+use Rattle.std.proofs.Common.{ℕ, List, Result, Err}
 use Rattle.disk_trait.specs.declared.disk.Area.{Area}
-use Rattle.disk_trait.specs.Disk.{DiskView, Torn, Cut, Touches, Keeps, Reads, Writes, Cuts, Syncs, Sizes}
+use Rattle.disk_trait.specs.Disk.{DiskView, Touches, Reads, Writes, Cuts, Syncs, Sizes}
 use Rattle.disk_trait.specs.Fuse.{fused}
 use Rattle.disk_trait.specs.Overlays.{torn_none, cut_none}
+use Rattle.disk_trait.specs.Rests.{fused_keeps}
 use Rattle.disk_trait.proofs.Calls.{keeps_touches}
 use Rattle.disk_trait.proofs.Runs.{keeps_none}
 
 module _ (old new : DiskView) (made made' refused refused' : ℕ) where
-  fused_keeps : Keeps old new → Keeps (fused old made refused) (fused new made' refused')
-  fused_keeps k = record {
-    time = record { later = k.time.later; past = k.time.past };
-    each = λ area. record { reads = (k.each area).reads; images = (k.each area).images };
-  }
-
   fused_touches : (R : List ℕ → List ℕ → Type 0) (area : Area) → Touches R area old new → Touches R area (fused old made refused) (fused new made' refused')
   fused_touches R area k = record {
     time = record { later = k.time.later; past = k.time.past };
@@ -22,10 +17,10 @@ module _ (old new : DiskView) (made made' refused refused' : ℕ) where
   }
 
   pub reads_through : {E : Type 0} (r : Result ℕ E) (area : Area) (at : ℕ) (into into' : List ℕ) → Reads {E = E} area at into into' old new r → Reads {E = E} area at into into' (fused old made refused) (fused new made' refused') r
-  reads_through r area at into into' k = record { keeps = fused_keeps k.keeps; ok = k.ok }
+  reads_through r area at into into' k = record { keeps = fused_keeps old new made made' refused refused' k.keeps; past = k.past; ok = k.ok }
 
   pub sizes_through : {E : Type 0} (r : Result ℕ E) (area : Area) → Sizes {E = E} area old new r → Sizes {E = E} area (fused old made refused) (fused new made' refused') r
-  sizes_through r area k = record { keeps = fused_keeps k.keeps; ok = k.ok }
+  sizes_through r area k = record { keeps = fused_keeps old new made made' refused refused' k.keeps; past = k.past; ok = k.ok }
 
   pub writes_through : {T E : Type 0} (r : Result T E) (area : Area) (at : ℕ) (bytes : List ℕ) → Writes {T = T} {E = E} area at bytes old new r → Writes {T = T} {E = E} area at bytes (fused old made refused) (fused new made' refused') r
   writes_through r area at bytes k = record { touches = fused_touches _ area k.touches; ok = k.ok }
@@ -34,7 +29,7 @@ module _ (old new : DiskView) (made made' refused refused' : ℕ) where
   cuts_through r area to k = record { touches = fused_touches _ area k.touches; ok = k.ok }
 
   pub syncs_through : {T E : Type 0} (r : Result T E) (area : Area) → Syncs {T = T} {E = E} area old new r → Syncs {T = T} {E = E} area (fused old made refused) (fused new made' refused') r
-  syncs_through r area k = record { keeps = fused_keeps k.keeps; ok = k.ok }
+  syncs_through r area k = record { keeps = fused_keeps old new made made' refused refused' k.keeps; ok = k.ok }
 
 -- a call that is refused leaves the disk as it was
 pub write_refused : {T E : Type 0} (disk : DiskView) (made made' refused refused' : ℕ) (e : E) (area : Area) (at : ℕ) (bytes : List ℕ)

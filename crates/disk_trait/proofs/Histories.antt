@@ -1,10 +1,11 @@
 -- What each call does to a disk in memory, said of its steps alone.
-use Rattle.std.proofs.Common.{◌≡◌, ◌⊎◌, ◌↔◌, inl, inr, ⊎_elim, ℕ, zero, suc, ◌+◌, ◌-◌, ◌<◌, ◌≤◌, Bool, true, false, MatchBool, List, [], ◌∷◌, ◌++◌, length, take, drop, refl, sym, ◌∙◌, ap, subst, arith}
+use Rattle.std.proofs.Common.{◌≡◌, ◌⊎◌, inl, inr, ⊎_elim, ℕ, ◌+◌, ◌<◌, ◌≤◌, Bool, true, false, MatchBool, List, [], ◌∷◌, refl, sym, ◌∙◌, ap, subst, arith}
 use Rattle.std.proofs.lemmas.Bool.Decides.{nat_tests}
 use Rattle.disk_trait.specs.declared.disk.Area.{Area}
-use Rattle.disk_trait.specs.Disk.{DiskView, is_same, Torn, Cut, Elapses, Rests, Goes, Touches, Keeps, IsSynced}
-use Rattle.disk_trait.specs.Contents.{Contents, content_of, with_content}
-use Rattle.disk_trait.specs.History.{Change, wrote, cut_to, synced, Step, changed, after, now_of, until, Takes, Leaves, AreBefore, MemDiskView, disk_view_of}
+use Rattle.disk_trait.specs.Disk.{is_same, Elapses, Rests, Touches, Keeps, IsSynced}
+use Rattle.disk_trait.specs.Contents.{Contents, content_of}
+use Rattle.disk_trait.specs.History.{Step, changed, after, now_of, until, Takes, Leaves, AreBefore, MemDiskView, disk_view_of}
+use Rattle.disk_trait.specs.Rests.{moved}
 use Rattle.disk_trait.specs.Stays.{content_same, content_other, same_area, is_same_self, leaves_now}
 
 pub until_all : (t : ℕ) (steps : List Step) → AreBefore t steps → until t steps ≡ steps
@@ -17,10 +18,6 @@ until_earlier t step earlier le = grind (arith, nat_tests)
 pub before_later : (s t : ℕ) (steps : List Step) → s ≤ t → AreBefore s steps → AreBefore t steps
 before_later s t [] le before = before
 before_later s t (step ∷ earlier) le before = omega (arith, before)
-
--- equal starts and steps may be left alike
-moved : (s1 s2 : Contents) (x1 x2 : List Step) (area : Area) (c : List ℕ) → s1 ≡ s2 → x1 ≡ x2 → Leaves s1 x1 area c → Leaves s2 x2 area c
-moved s1 s2 x1 x2 area c e f left = subst (λ (s : Contents). Leaves s x2 area c) e (subst (λ (x : List Step). Leaves s1 x area c) f left)
 
 -- a call that changes nothing but the counts
 module _ (v w : MemDiskView) (start : w.start ≡ v.start) (steps : w.steps ≡ v.steps) (later : v.made ≤ w.made) (before : AreBefore v.made v.steps) where

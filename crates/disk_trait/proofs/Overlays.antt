@@ -1,9 +1,8 @@
 -- Filling a file up and writing into it.
-use Rattle.std.proofs.Common.{◌≡◌, ◌⊎◌, inl, inr, ⊎_elim, ℕ, zero, suc, ◌+◌, ◌-◌, ◌<◌, ◌≤◌, min, max, List, [], ◌∷◌, ◌++◌, length, take, drop, replicate, refl, sym, ◌∙◌, ap, arith, append_assoc, length-append, length-drop, length-take}
-use Rattle.std.proofs.lemmas.List.{append-nil, take_all, drop_all, take-append-le, take-take, take-replicate, length-replicate, take_min}
-use Rattle.std.proofs.lemmas.Slice.{drop-append-drop}
+use Rattle.std.proofs.Common.{◌≡◌, ◌⊎◌, inl, inr, ℕ, ◌+◌, ◌-◌, ◌<◌, ◌≤◌, List, [], ◌∷◌, ◌++◌, length, take, drop, replicate, sym, ◌∙◌, ap, arith, length-append}
+use Rattle.std.proofs.lemmas.List.{append-nil, take_all, drop_all, take-append-le, take-replicate, length-replicate}
 use Rattle.std.proofs.Math.Seq.{take-append-add}
-use Rattle.disk_trait.specs.Disk.{overlay, Torn, Cut}
+use Rattle.disk_trait.specs.Disk.{overlay}
 use Rattle.disk_trait.specs.Contents.{filled, pasted}
 
 le_cases : (m n : ℕ) → (m ≤ n) ⊎ (n ≤ m)

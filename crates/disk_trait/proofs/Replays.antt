@@ -1,5 +1,5 @@
 -- What is left of the rows of a journal, row by row.
-use Rattle.std.proofs.Common.{◌≡◌, ◌⊎◌, inl, inr, ℕ, zero, suc, ◌+◌, ◌-◌, ◌<◌, ◌≤◌, nat_lt, Bool, true, false, ◌&&◌, ◌||◌, List, [], ◌∷◌, ◌++◌, map, reverse, length, get_or, take, drop, refl, sym, ◌∙◌, ap, subst, arith}
+use Rattle.std.proofs.Common.{◌≡◌, inl, inr, ℕ, zero, suc, ◌+◌, ◌-◌, ◌<◌, ◌≤◌, nat_lt, Bool, true, false, ◌&&◌, ◌||◌, List, [], ◌∷◌, ◌++◌, map, reverse, length, get_or, take, drop, refl, sym, ◌∙◌, ap, subst, arith}
 use Rattle.std.proofs.lemmas.List.{reverse-append, map-append, get_or_default, reverse-reverse, take_more, drop_more, drop-drop}
 use Rattle.std.proofs.lemmas.Bool.Decides.{nat_tests}
 use Rattle.std.proofs.lemmas.List.Elements.{All-take}
@@ -9,7 +9,7 @@ use Rattle.disk_trait.specs.declared.journal.Kind.TheVariants.{Write, Cut, Sync}
 use Rattle.disk_trait.specs.declared.journal.Row.{Row}
 use Rattle.disk_trait.specs.Disk.{is_same}
 use Rattle.disk_trait.specs.Contents.{Contents}
-use Rattle.disk_trait.specs.History.{Step, until, AreBefore}
+use Rattle.disk_trait.specs.History.{Step, until}
 use Rattle.disk_trait.specs.Crash.{is_sync, is_synced_by, kept, replayed, left_after}
 use Rattle.disk_trait.specs.Journal.{change_in, step_in, steps_in, is_sync_kind, is_sync_of, has_sync, HasBytes, RowsHaveBytes}
 use Rattle.disk_trait.proofs.Histories.{until_all, until_earlier, before_or_after}

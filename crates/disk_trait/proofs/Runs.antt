@@ -1,7 +1,7 @@
 -- How a run of calls goes on.
-use Rattle.std.proofs.Common.{◌≡◌, ◌⊎◌, ◌↔◌, inl, inr, ⊎_elim, ℕ, ◌<◌, ◌≤◌, Bool, true, false, if◌then◌else◌, List, refl, sym, ◌∙◌, ap, subst, arith}
+use Rattle.std.proofs.Common.{◌≡◌, inl, inr, ℕ, ◌≤◌, Bool, true, false, if◌then◌else◌, List, refl, sym, ◌∙◌, ap, subst, arith}
 use Rattle.disk_trait.specs.declared.disk.Area.{Area}
-use Rattle.disk_trait.specs.Disk.{DiskView, is_same, Elapses, Rests, Goes, Touches, Keeps, IsSynced, IsImage}
+use Rattle.disk_trait.specs.Disk.{DiskView, is_same, Elapses, Rests, Touches, Keeps, IsSynced, IsImage}
 use Rattle.disk_trait.specs.Runs.{IsFirm, LeavesOnly}
 use Rattle.disk_trait.specs.Stays.{same_area, is_same_self}
 use Rattle.disk_trait.proofs.Histories.{before_or_after}

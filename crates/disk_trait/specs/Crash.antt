@@ -1,7 +1,6 @@
 -- What a crash of a disk in memory leaves: of the bytes that weren't synced, a first part in the order of writing.
-use Rattle.std.specs.Prelude.{◌≡◌, ℕ, ◌+◌, ◌-◌, ◌==◌, Bool, true, false, ◌&&◌, ◌||◌, if◌then◌else◌, List, [], ◌∷◌, reverse, length, take}
+use Rattle.std.specs.Prelude.{ℕ, ◌-◌, ◌==◌, Bool, true, false, ◌&&◌, ◌||◌, if◌then◌else◌, List, [], ◌∷◌, reverse, length, take}
 use Rattle.disk_trait.specs.declared.disk.Area.{Area}
-use Rattle.disk_trait.specs.declared.memory.Room.{Room}
 use Rattle.disk_trait.specs.Disk.{is_same, overlay}
 use Rattle.disk_trait.specs.Contents.{Contents, content_of, with_content}
 use Rattle.disk_trait.specs.History.{Change, wrote, cut_to, synced, Step, changed, until, MemDiskView}

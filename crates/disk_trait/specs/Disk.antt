@@ -1,15 +1,17 @@
 -- What is seen of a disk, and what its calls do to it.
-use Rattle.std.specs.Prelude.{◌≡◌, ◌⊎◌, ◌↔◌, ℕ, ◌+◌, ◌-◌, ◌^◌, ◌<◌, ◌≤◌, ◌==◌, min, max, Bool, true, false, List, [], ◌∷◌, ◌++◌, length, take, drop, replicate, Result, IfOk, OnOk}
+use Rattle.std.specs.Prelude.{◌≡◌, ◌↔◌, ℕ, ◌+◌, ◌-◌, ◌^◌, ◌≤◌, ◌==◌, min, max, Bool, false, List, [], ◌∷◌, ◌++◌, length, take, drop, replicate, Result, IfOk, OnOk}
 use Rattle.outside_traits.specs.Faults.{HasCause}
 use Rattle.disk_trait.specs.declared.disk.Area.{Area}
 use Rattle.disk_trait.specs.declared.disk.Area.TheVariants.{Oplog, Tree, BitsA, BitsB, Blocks}
+use Rattle.disk_trait.specs.Past.{Past}
 
 -- what is seen of a disk: whether it answers as it tells, what each area reads as, what a crash at each moment so far
--- may leave of each area, this moment, and its counts
+-- may leave of each area, what it went through, this moment, and its counts
 pub record DiskView : Type 1 where
   pub honest : Bool
   pub reads : Area → List ℕ
   pub image : ℕ → Area → List ℕ → Type 0
+  pub past : Past
   pub moment : ℕ
   pub faults : ℕ
   pub calls : ℕ
@@ -70,6 +72,11 @@ pub record Keeps (old new : DiskView) : Type 0 where
   pub time : Elapses old new
   pub each : (area : Area) → Rests area old new
 
+-- no step was made since
+pub record IsOnePast (old new : DiskView) : Type 0 where
+  pub past : new.past ≡ old.past
+  pub later : old.moment ≤ new.moment
+
 -- a crash now leaves of this area what a read gives
 abbrev pub IsSynced : Area → DiskView → Type 0
 IsSynced area disk = (c : List ℕ) → disk.image disk.moment area c → c ≡ disk.reads area
@@ -100,11 +107,13 @@ pub record Counts {T E : Type 0} (old new : DiskView) (answer : Result T E) : Ty
 -- what a read of so many bytes from a place does
 pub record Reads {E : Type 0} (area : Area) (at : ℕ) (old_into new_into : List ℕ) (old new : DiskView) (answer : Result ℕ E) : Type 0 where
   pub keeps : Keeps old new
+  pub past : new.past ≡ old.past
   pub ok : IfOk answer (ReadsAt at (old.reads area) old_into new_into)
 
 -- what asking for a size does
 pub record Sizes {E : Type 0} (area : Area) (old new : DiskView) (answer : Result ℕ E) : Type 0 where
   pub keeps : Keeps old new
+  pub past : new.past ≡ old.past
   pub ok : IfOk answer (λ n. n ≡ length (old.reads area))
 
 -- a write that fails is made wholly, in part or not at all

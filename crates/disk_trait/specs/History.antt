@@ -1,22 +1,11 @@
 -- What a disk in memory keeps: the steps that changed it, what they make of its areas, and what a crash may leave.
-use Rattle.std.specs.Prelude.{◌≡◌, ◌⊎◌, ℕ, ◌+◌, ◌^◌, ◌-◌, ◌<◌, ◌≤◌, ◌==◌, nat_lt, MatchBool, Bool, true, false, ◌&&◌, ◌||◌, if◌then◌else◌, List, [], ◌∷◌, length, take, drop, Result, is_ok, ⊤}
+use Rattle.std.specs.Prelude.{◌≡◌, ◌⊎◌, ℕ, ◌^◌, ◌-◌, ◌<◌, nat_lt, MatchBool, true, if◌then◌else◌, List, [], ◌∷◌, length, take, Result, is_ok, ⊤}
 use Rattle.std.specs.List.{Contains}
 use Rattle.disk_trait.specs.declared.disk.Area.{Area}
 use Rattle.disk_trait.specs.declared.memory.Room.{Room}
 use Rattle.disk_trait.specs.Disk.{DiskView, is_same, overlay, Torn, Cut}
 use Rattle.disk_trait.specs.Contents.{Contents, FilesView, content_of, with_content, empty}
-
--- what a call did to an area
-pub data Change : Type 0 where
-  wrote : ℕ → List ℕ → Change
-  cut_to : ℕ → Change
-  synced : Change
-
--- a call that succeeded: how many calls were made before it, its area, and what it did there
-pub record Step : Type 0 where
-  pub call : ℕ
-  pub area : Area
-  pub change : Change
+pub use Rattle.disk_trait.specs.Past.{Change, wrote, cut_to, synced, Step}
 
 -- an area's bytes after a change
 abbrev pub changed : Change → List ℕ → List ℕ
@@ -79,6 +68,7 @@ disk_view_of disk = record {
   honest = true;
   reads = content_of (now_of disk.start (until disk.made disk.steps));
   image = λ t. Leaves disk.start (until t disk.steps);
+  past = record { start = disk.start; steps = until disk.made disk.steps };
   moment = disk.made;
   faults = disk.faults;
   calls = disk.made;

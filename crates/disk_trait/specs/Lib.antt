@@ -5,5 +5,7 @@ pub mod Fuse
 pub mod History
 pub mod Journal
 pub mod Overlays
+pub mod Past
+pub mod Rests
 pub mod Runs
 pub mod Stays

@@ -1,5 +1,5 @@
 -- What a run of calls leaves of a disk: the words for the layers above.
-use Rattle.std.specs.Prelude.{◌≡◌, ℕ, ◌≤◌, List}
+use Rattle.std.specs.Prelude.{ℕ, ◌≤◌, List}
 use Rattle.disk_trait.specs.declared.disk.Area.{Area}
 use Rattle.disk_trait.specs.Disk.{DiskView, Elapses, IsImage}
 

@@ -1,5 +1,5 @@
 -- A disk in memory as it reads is one of the ways in which a crash may leave it.
-use Rattle.std.proofs.Common.{◌≡◌, ℕ, Bool, true, false, List, [], ◌∷◌, length, MatchBool, refl, sym, ap, subst, arith}
+use Rattle.std.proofs.Common.{◌≡◌, ℕ, Bool, true, false, List, [], ◌∷◌, length, MatchBool, refl, sym, subst, arith}
 use Rattle.disk_trait.specs.declared.disk.Area.{Area}
 use Rattle.disk_trait.specs.declared.disk.Area.TheVariants.{Oplog, Tree, BitsA, BitsB, Blocks}
 use Rattle.disk_trait.specs.Disk.{is_same, MayStay}

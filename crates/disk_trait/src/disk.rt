@@ -1,6 +1,6 @@
 //! The trait of disks.
 ghost use Rattle.std.specs.Prelude.{◌≡◌, ◌≤◌, ℕ, List, IsTrue, length};
-ghost use Rattle.disk_trait.specs.Disk.{DiskView, Counts, Reads, Writes, Cuts, Syncs, Sizes, MayStay};
+ghost use Rattle.disk_trait.specs.Disk.{DiskView, Counts, Reads, Writes, Cuts, Syncs, Sizes, Keeps, IsOnePast, MayStay};
 
 use outside_traits::Failed;
 
@@ -17,7 +17,8 @@ pub enum Area {
 /// Five areas of bytes that outlive the program. What was written since an area's last sync may be lost in a crash,
 /// or torn: docs/MODEL.md, "The disk".
 pub trait Disk {
-    /// What is seen of it: what its areas read as, what a crash may leave, its clock and its counts.
+    /// What is seen of it: what its areas read as, what a crash may leave, what it went through, its clock and its
+    /// counts.
     ghost disk: { Self → DiskView };
 
     /// Reads at the front of `into` the bytes from `at` on, and gives their number: as many as the area has there.
@@ -57,4 +58,8 @@ pub trait Disk {
 
     /// As it reads is one of the ways in which a crash now may leave it.
     ghost may_stay: { (self : Self) → IsTrue (disk self).honest → MayStay (disk self) };
+
+    /// Where no step was made since, nothing was touched since.
+    ghost rests: { (old new : Self) → IsTrue (disk old).honest → IsOnePast (disk old) (disk new)
+        → Keeps (disk old) (disk new) };
 }

@@ -3,6 +3,7 @@ ghost use Rattle.std.specs.Prelude.{◌≡◌, ◌≤◌, ◌<◌, ◌+◌, ◌-
 ghost use Rattle.outside_traits.specs.Faults.{count_fault};
 ghost use Rattle.disk_trait.specs.Disk.{Counts, Reads, Writes, Cuts, Syncs, Sizes};
 ghost use Rattle.disk_trait.specs.Fuse.{inner_of, left_of, made_of, refused_of, fuse_view_of, Fuses};
+ghost use Rattle.disk_trait.specs.Rests.{fuse_rests};
 
 use crate::disk::{Area, Disk};
 use outside_traits::Failed;
@@ -61,6 +62,9 @@ impl<D: Disk> Disk for FuseDisk<D> {
     ghost disk = { fuse_view_of D.Disk.disk };
 
     ghost may_stay = { λ fuse honest. D.Disk.may_stay fuse.inner honest };
+
+    ghost rests = { λ old new honest one. fuse_rests (D.Disk.disk old.inner) (D.Disk.disk new.inner)
+        old.made new.made old.refused new.refused (λ inner. D.Disk.rests old.inner new.inner honest inner) one };
 
     fn read(&mut self, area: Area, at: u64, into: &mut [u8]) -> Result<usize, Failed>
         ensures counts { Counts (fuse_view_of D.Disk.disk self.old)

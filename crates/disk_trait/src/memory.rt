@@ -3,6 +3,7 @@ ghost use Rattle.std.specs.Prelude.{◌≡◌, ◌≤◌, ◌<◌, ◌+◌, ◌^
 ghost use Rattle.disk_trait.specs.Disk.{ReadsAt, IsImage, IsSettled, Counts, Reads, Writes, Cuts, Syncs, Sizes};
 ghost use Rattle.disk_trait.specs.History.{MemDiskView, IsConsistent, disk_view_of, fresh, IsRefused, Spends};
 ghost use Rattle.disk_trait.specs.Crash.{crashed};
+ghost use Rattle.disk_trait.specs.Rests.{mem_rests};
 ghost use Rattle.disk_trait.specs.Stays.{stays};
 
 use crate::disk::{Area, Disk};
@@ -147,6 +148,8 @@ impl Disk for MemDisk {
     ghost disk = { disk_view_of };
 
     ghost may_stay = { λ disk honest. stays disk };
+
+    ghost rests = { λ old new honest one. mem_rests old new one };
 
     fn read(&mut self, area: Area, at: u64, into: &mut [u8]) -> Result<usize, Failed>
         ensures counts { Counts (disk_view_of self.old) (disk_view_of self.new) result }

@@ -1,7 +1,9 @@
 -- What is known of the core of a name once it was opened, or wasn't.
 use Rattle.std.proofs.Common.{◌≡◌, ℕ, ◌≤◌, Bool, true, false, List, Ok, Err, inl, inr, refl, sym, ◌∙◌, ap, subst, arith}
 use Rattle.std.specs.Prelude.{IsTrue, IsErrOf, if◌then◌else◌, []}
-use Rattle.std.proofs.lemmas.Bool.{and_from, true_from_ne_false}
+use Rattle.std.proofs.lemmas.Bool.{and_from, cases_Bool, true_from_ne_false}
+use Rattle.std.specs.Str.{bytes_eq}
+use Rattle.std.proofs.lemmas.Slice.Eq.{bytes_eq-Decides}
 use mathlib.Core.Path.{fun_ext}
 use Rattle.outside_traits.specs.Faults.{Rose}
 use Rattle.disk_trait.specs.declared.disk.Area.TheVariants.{Blocks as BlocksArea}
@@ -15,16 +17,22 @@ use Rattle.core_disk.specs.Parts.{OpensStore}
 use Rattle.core_disk.specs.Standing.{StandsFor, HasBlocks}
 use Rattle.core_disk.specs.Firm.{StandsFirmly}
 use Rattle.core_disk.specs.Testing.{is_whole, has_blocks}
+use Rattle.core_disk.specs.InHand.{opened_of}
+use Rattle.core_disk.specs.Laid.{content_in}
 use Rattle.core_disk.specs.Stored.{blocks_area}
 use Rattle.core_disk.specs.Cored.{Cored, disk_under, shown, state_of}
+use Rattle.core_disk.specs.Reading.{OnlyReads}
 use Rattle.core_disk.specs.Handed.{IsOpenedOn, IsNotOpened, LeavesContent}
-use Rattle.core_disk.proofs.StandingDisks.{same_firmly, same_reads}
+use Rattle.core_disk.proofs.StandingDisks.{firmly, same_firmly, same_reads, kept_firmly}
 use Rattle.core_disk.proofs.Testing.{told_whole, told_has}
 use Rattle.core_shelf.specs.declared.fault.NamedFault.{NamedFault}
 use Rattle.core_shelf.specs.declared.fault.NamedFault.TheVariants.{NoCore, CoreExists, Core}
 use Rattle.core_shelf.specs.Shelf.{ShelfView, Counts, CountsIn, Gives, Others}
 use Rattle.core_shelf.specs.Named.{Stays, KeepsOthers, TakesOut, Opens, RefusesOr, IsRefused}
+use Rattle.hypercore_cli.specs.Runs.{AreHome}
 use Rattle.hypercore_cli.specs.Faults.{named_end}
+use Rattle.hypercore_cli.specs.declared.outcome.Outcome.{Outcome}
+use Rattle.hypercore_cli.specs.declared.outcome.Outcome.TheVariants.{NoCore as NoCoreEnd, StoreFault as StoreFaultEnd, BadStore as BadStoreEnd, Damaged as DamagedEnd, BadSignature as BadSignatureEnd, NoMemory}
 use Rattle.hypercore_cli.specs.Cores.{NamedCore, KeepsRest, StoodFor, IsOpened, IsUnfit, KeepsContent, RefusesOpening}
 
 -- a risen count rose also since before, and is also later
@@ -82,6 +90,15 @@ rest_kept c mid store others list counts came gives =
       home = λ honest. (gives (mid_tells (sym (counts.honest ∙ others.counts.honest) ∙ honest))).back;
     }
 
+-- so no disk is out where none was
+pub all_home : (c : NamedCore) → KeepsRest c → AreHome c.old → AreHome c.new
+all_home c rest home other honest =
+    let told = sym rest.others.counts.honest ∙ honest in
+    elim (cases_Bool (bytes_eq c.id other)) [
+      | inl same ↦ subst (λ (id : List ℕ). c.new.out id ≡ false) ((bytes_eq-Decides c.id other).0 same) (rest.home honest)
+      | inr apart ↦ (rest.others.places told other apart).out ∙ home other told
+    ]
+
 -- where the count of faults of the core's disk rose since it was opened, the shelf's did
 pub rose_in : (c : NamedCore) (mid : ShelfView) (store core : ℕ) (now : DiskView) → Counts c.old mid → mid.went c.id ≡ store → store ≤ core
     → CountsIn now c.id mid c.new → Counts mid c.new → Rose core now.faults → Rose c.old.faults c.new.faults
@@ -100,6 +117,12 @@ module _ {D A : Type 0} (disk : D → DiskView) (authority : A → List ℕ → 
     pub taken_stands : (m : Content) → StoodFor c m → StandsFor c.accepts c.id (disk taken.store).reads m
     taken_stands m stood = same_reads _ _ _ _ m (taken.was stood.honest) stood.reads
 
+    -- what it shows are its areas' head, nodes and blocks
+    is_shown : IsTrue c.old.honest → content_in ((c.old.disk c.id).reads BlocksArea) (opened_of core.store.hand) ≡ shown disk core
+    is_shown honest =
+        let told = area_told (disk core.store.disk) (taken.says.leaves.honest ∙ taken_tells honest) in
+        ap (λ (area : List ℕ). content_in area (opened_of core.store.hand)) (sym (told ∙ taken.says.leaves.blocks (taken_tells honest) ∙ (taken.was honest).reads BlocksArea))
+
     pub is_opened : (IsTrue c.old.honest → IsRefused {C = Cored D A} NoCore (c.old.marked c.id ≡ false) (Ok core)) → IsOpened c (shown disk core)
     is_opened refused = record {
       listed = λ honest. true_from_ne_false (c.old.marked c.id)
@@ -109,7 +132,7 @@ module _ {D A : Type 0} (disk : D → DiskView) (authority : A → List ℕ → 
         core.place,
         core.store.hand,
         subst (λ (areas : Areas). OpensStore c.accepts c.id areas (Ok (core.place, core.store.hand))) (fun_ext (taken.was honest).reads) (taken.says.opens (taken_tells honest)),
-        refl,
+        is_shown honest,
       );
     }
 
@@ -127,6 +150,16 @@ module _ {D A : Type 0} (disk : D → DiskView) (authority : A → List ℕ → 
         let blocks : has_blocks (blocks_area (disk core.store.disk)) (shown disk core) ≡ true = subst (λ (n : Content). has_blocks (blocks_area (disk core.store.disk)) n ≡ true) (sym (shows m stood))
         (told_has (blocks_area (disk core.store.disk)) m (subst (λ (bytes : List ℕ). HasBlocks bytes m) (sym area) for.blocks)) in
         and_from _ _ honest (and_from _ _ whole blocks)
+
+  -- it was, and then it was only read: its disk stands firmly, back on the shelf, for what it did before
+  module _ (stays : (d : D) → IsTrue (disk d).honest → MayStay (disk d)) (mid : ShelfView) (core now : Cored D A)
+      (taken : TakesOut disk (disk_under disk) (IsOpenedOn disk authority c.accepts c.id) c.id c.old mid core) where
+    pub reading_keeps : OnlyReads disk core now → (IsTrue c.old.honest → SameDisk (disk_under disk now) (c.new.disk c.id)) → KeepsContent c
+    reading_keeps reads here m honest firm =
+        let was = same_firmly c.accepts c.id _ _ m (taken.was honest) firm in
+        let opened = taken.says.leaves.honest ∙ was.honest in
+        let stood = firmly c.accepts c.id (disk core.store.disk) core.place m opened (stays core.store.disk opened) (taken.says.firm m was.honest was.reads) in
+        same_firmly _ _ _ _ m (here honest) (kept_firmly c.accepts c.id (disk core.store.disk) (disk now.store.disk) m reads.honest (reads.keeps opened) stood)
 
   -- ---- it wasn't
 
@@ -181,3 +214,15 @@ module _ {D A : Type 0} (disk : D → DiskView) (authority : A → List ℕ → 
     refuses_opening (Core (OldFork have)) told refused cause = keeps_content (OldFork have) told
     refuses_opening (Core (Limit what max)) told refused cause = keeps_content (Limit what max) told
     refuses_opening (Core (Refused refusal)) told refused cause = keeps_content (Refused refusal) told
+
+-- ---- what a disk stands firmly for
+
+-- an opening that is refused keeps it
+pub refusal_keeps : (c : NamedCore) (outcome : Outcome) → RefusesOpening c outcome → KeepsContent c
+refusal_keeps c NoCoreEnd why = why.1
+refusal_keeps c StoreFaultEnd why = why.1
+refusal_keeps c (BadStoreEnd area at) why = λ m honest firm. absurd (why.none m (record { honest = honest; reads = firm.reads }))
+refusal_keeps c (DamagedEnd place want have) why = λ m honest firm. absurd (why.none m (record { honest = honest; reads = firm.reads }))
+refusal_keeps c BadSignatureEnd why = λ m honest firm. absurd (why.none m (record { honest = honest; reads = firm.reads }))
+refusal_keeps c NoMemory why = why
+refusal_keeps c other why = absurd why

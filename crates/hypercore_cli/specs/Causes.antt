@@ -6,7 +6,7 @@ use Rattle.hypercore_cli.specs.Commands.{Says}
 use Rattle.hypercore_cli.specs.Runs.{Run, NoOutput, LeavesShelf}
 use Rattle.hypercore_cli.specs.Checks.{ChecksTo}
 use Rattle.hypercore_cli.specs.Proves.{ProvesTo}
-use Rattle.hypercore_cli.specs.Cores.{NamedCore, core_of, KeepsRest, KeepsMark}
+use Rattle.hypercore_cli.specs.Cores.{NamedCore, core_of, KeepsRest, KeepsMark, KeepsContent}
 use Rattle.hypercore_cli.specs.Inits.{InitsTo}
 use Rattle.hypercore_cli.specs.Gets.{GetsTo}
 use Rattle.hypercore_cli.specs.Extends.{ExtendsTo}
@@ -29,7 +29,7 @@ RunsTo r (Append key name) outcome =
     ExtendsTo (core_in r key name.now) r.streams.input r.streams.input_now r.streams.output r.streams.output_now outcome
     × KeepsRest (core_in r key name.now) × KeepsMark (core_in r key name.now)
 RunsTo r (Get key name index) outcome = GetsTo (core_in r key name.now) index r.streams.output r.streams.output_now outcome
-    × KeepsRest (core_in r key name.now) × KeepsMark (core_in r key name.now)
+    × KeepsRest (core_in r key name.now) × KeepsMark (core_in r key name.now) × KeepsContent (core_in r key name.now)
 
 -- when each end of a run with these words comes
 abbrev pub Causes : List (List ℕ) → Run → Outcome → Type 0

@@ -1,13 +1,13 @@
 -- The core of a name in a run, and what each command that names one does to the shelf.
 use Rattle.std.specs.Prelude.{◌≡◌, ℕ, Bool, true, false, List, Ok, Err, IsTrue}
-use Rattle.merkle_nodes.specs.declared.roots.Head.{Head}
+use Rattle.disk_trait.specs.declared.disk.Area.TheVariants.{Blocks}
 use Rattle.oplog_file.specs.Writers.{Place}
 use Rattle.outside_traits.specs.Faults.{Rose}
 use Rattle.node_set.specs.declared.fault.CoreFault.{CoreFault}
 use Rattle.node_set.specs.declared.fault.CoreFault.TheVariants.{BadStore as IsBadStore, Damaged as IsDamaged, BadSignature as IsUnsigned}
 use Rattle.node_set.specs.Contents.{Content}
-use Rattle.core_disk.specs.Areas.{head_of}
-use Rattle.core_disk.specs.InHand.{InHand}
+use Rattle.core_disk.specs.InHand.{InHand, opened_of}
+use Rattle.core_disk.specs.Laid.{content_in}
 use Rattle.core_disk.specs.Standing.{StandsFor}
 use Rattle.core_disk.specs.Firm.{StandsFirmly}
 use Rattle.core_disk.specs.Parts.{OpensStore}
@@ -57,26 +57,21 @@ StandsNow c m = IsTrue c.old.honest → StandsFirmly c.accepts c.id (c.new.disk 
 
 -- ---- opening
 
--- the areas of the core's disk gave this head when they were opened
-abbrev pub GaveHead : NamedCore → Head → Type 0
-GaveHead c head = (place : Place) × (hand : InHand) × OpensStore c.accepts c.id (c.old.disk c.id).reads (Ok (place, hand)) × (hand.head ≡ head)
+-- the areas of the core's disk gave this content when they were opened, agreeing or not
+abbrev pub Gave : NamedCore → Content → Type 0
+Gave c m = (place : Place) × (hand : InHand) × OpensStore c.accepts c.id (c.old.disk c.id).reads (Ok (place, hand))
+    × (content_in ((c.old.disk c.id).reads Blocks) (opened_of hand) ≡ m)
 
 -- The core was opened and shows this content, under a head that its authority accepts, or that was never signed.
 pub record IsOpened (c : NamedCore) (shown : Content) : Type 0 where
   pub listed : WasListed c
   pub accepted : HasAcceptedHead c.accepts shown
-  pub gave : IsTrue c.old.honest → GaveHead c (head_of shown)
+  pub gave : IsTrue c.old.honest → Gave c shown
 
 -- the core wasn't opened, by the first fault of its areas: its disk stood for no content
 pub record IsUnfit (c : NamedCore) (fault : CoreFault) : Type 0 where
   pub listed : WasListed c
   pub opens : IsTrue c.old.honest → OpensStore c.accepts c.id (c.old.disk c.id).reads (Err fault)
-  pub none : (m : Content) → StoodFor c m → ⊥
-
--- the core was opened, and then its disk was found to stand for no content
-pub record IsFoundUnfit (c : NamedCore) : Type 0 where
-  pub shown : Content
-  pub opened : IsOpened c shown
   pub none : (m : Content) → StoodFor c m → ⊥
 
 -- the core's disk stands firmly for each content for which it did

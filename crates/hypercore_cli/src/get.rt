@@ -2,7 +2,7 @@
 ghost use Rattle.std.specs.Prelude.{◌≡◌, ◌≤◌, length, take, IsTrue, true, IfOk};
 ghost use Rattle.flat_tree.specs.declared.limits.TheConstants.{MAX_BLOCK_BYTES};
 ghost use Rattle.core_shelf.specs.Named.{id_of, IsHome};
-ghost use Rattle.hypercore_cli.specs.Cores.{core_of, KeepsRest, KeepsMark};
+ghost use Rattle.hypercore_cli.specs.Cores.{core_of, KeepsRest, KeepsMark, KeepsContent};
 ghost use Rattle.hypercore_cli.specs.Gets.{GetsTo, ReadsTo};
 
 use crate::faults::{named_end, read_end};
@@ -29,6 +29,8 @@ pub fn get<H: Shelf, K: Keys, O: Sink>(
     ensures rest { KeepsRest (core_of (K.key_accepts keys.now) (K.public_of keys.now) key.now name.now
         (H.shelf shelf.old) (H.shelf shelf.new)) }
     ensures mark { KeepsMark (core_of (K.key_accepts keys.now) (K.public_of keys.now) key.now name.now
+        (H.shelf shelf.old) (H.shelf shelf.new)) }
+    ensures content { KeepsContent (core_of (K.key_accepts keys.now) (K.public_of keys.now) key.now name.now
         (H.shelf shelf.old) (H.shelf shelf.new)) }
 {
     get_within(
@@ -62,6 +64,8 @@ fn get_within<H: Shelf, K: Keys, O: Sink>(
         (H.shelf shelf.old) (H.shelf shelf.new)) }
     ensures mark { KeepsMark (core_of (K.key_accepts keys.now) (K.public_of keys.now) key.now name.now
         (H.shelf shelf.old) (H.shelf shelf.new)) }
+    ensures content { KeepsContent (core_of (K.key_accepts keys.now) (K.public_of keys.now) key.now name.now
+        (H.shelf shelf.old) (H.shelf shelf.new)) }
 {
     let Ok(mut place) = Blob::zeros(alloc, room) else {
         return Outcome::NoMemory;
@@ -93,6 +97,8 @@ fn read<H: Shelf, K: Keys>(
     ensures rest { KeepsRest (core_of (K.key_accepts keys.now) (K.public_of keys.now) key.now name.now
         (H.shelf shelf.old) (H.shelf shelf.new)) }
     ensures mark { KeepsMark (core_of (K.key_accepts keys.now) (K.public_of keys.now) key.now name.now
+        (H.shelf shelf.old) (H.shelf shelf.new)) }
+    ensures content { KeepsContent (core_of (K.key_accepts keys.now) (K.public_of keys.now) key.now name.now
         (H.shelf shelf.old) (H.shelf shelf.new)) }
 {
     let opened: Result<DiskCore<H::Store, K::Auth>, NamedFault> = open_named(

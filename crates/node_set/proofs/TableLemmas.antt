@@ -20,7 +20,7 @@ use Rattle.node_set.specs.Closure.{in_closure}
 use Rattle.node_set.specs.Nodes.{values_of}
 use Rattle.node_set.specs.Tables.{Parts, shown, FitsAsRoot, PartsFit, Table, state_of, IsTable}
 use Rattle.node_set.proofs.Stored.{some_of}
-use Rattle.node_set.specs.Views.{ViewState, IsUsable, GivesNode, GivesBlock, HasViewCause}
+use Rattle.node_set.specs.Views.{ViewState, IsUsable, GivesNode, GivesBlock, HasViewCause, is_of_store}
 
 -- a place within has its bit, and no other
 pub has_within : (set : List Bool) (place : ℕ) → has set place ≡ true → place < length set
@@ -69,6 +69,7 @@ module _ (old t : Table) (left : ℕ) (called : t ≡ record old { left = left }
   none_here by = record {
     closed = stored_at false by;
     content = λ stands depth offset there. rw (sym (by depth offset there)) refl;
+    shown = λ shows depth offset there. rw (sym (by depth offset there)) refl;
     numbered = λ node none. cc;
     size = λ node none. cc;
   }
@@ -84,6 +85,7 @@ module _ (old t : Table) (left : ℕ) (called : t ≡ record old { left = left }
     some_here = record {
       closed = stored_at true by;
       content = λ stands depth offset there. rw (sym (by depth offset there)) (sym (value depth offset there));
+      shown = λ shows depth offset there. rw (sym (by depth offset there)) (sym (value depth offset there));
       numbered = λ other is. let is_same : node ≡ other = cc in subst (λ (n : Node). n.index ≡ index) is_same numbered;
       size = λ other is. let is_same : node ≡ other = cc in subst (λ (n : Node). n.size ≤ MAX_CORE_BYTES) is_same size;
     }
@@ -132,6 +134,7 @@ module _ (old t : Table) (left : ℕ) (called : t ≡ record old { left = left }
           size = size;
           within = omega (arith, length-append written rest, ap length copied);
           content = λ stands. rw bit (there ∙ ap Some (sym (front ∙ same_bytes)));
+          shown = λ shows. rw bit (there ∙ ap Some (sym (front ∙ same_bytes)));
         }
 
     pub gives_block : GivesBlock (state_of old) index (written ++ rest) (length bytes)
@@ -139,9 +142,9 @@ module _ (old t : Table) (left : ℕ) (called : t ≡ record old { left = left }
 
 -- a fault of a view that doesn't stand, counted
 pub counted_cause : {T : Type 0} (old now new : Table) (left : ℕ) (fault given : CoreFault) → now ≡ record old { left = left } → given ≡ fault
-    → now.told ≤ new.told → new ≡ record now { told = count_fault now.told; last = Some fault } → (IsTrue old.stands → ⊥)
+    → now.told ≤ new.told → new ≡ record now { told = count_fault now.told; last = Some fault } → (IsTrue old.stands → ⊥) → is_of_store fault ≡ true
     → HasViewCause {T = T} (state_of old) (state_of new) (Err given)
-counted_cause old now new left fault given called is kept counted falls =
+counted_cause old now new left fault given called is kept counted falls of_store =
     let before : now.told ≡ old.told = ap (λ (t : Table). t.told) called in
     let told : new.told ≡ count_fault now.told = ap (λ (t : Table). t.told) counted in
     let rose : count_fault old.told ≤ new.told = subst (λ (n : ℕ). count_fault n ≤ new.told) before (omega (arith, told)) in
@@ -153,5 +156,6 @@ counted_cause old now new left fault given called is kept counted falls =
         last = ap (λ (t : Table). t.last) counted ∙ ap Some (sym is);
         cause = λ store. rose;
         stands = λ here. absurd (falls here);
+        own = ap is_of_store is ∙ of_store;
       };
     }

@@ -1,5 +1,5 @@
 -- What is seen of a view in memory: the content that its parts show, and what they keep.
-use Rattle.std.specs.Prelude.{◌≡◌, ℕ, ◌^◌, ◌-◌, Bool, ◌≤◌, List, length, Option, Some, None, IsTrue, slice_get, if◌then◌else◌}
+use Rattle.std.specs.Prelude.{◌≡◌, ℕ, ◌^◌, ◌-◌, Bool, true, ◌≤◌, List, length, Option, Some, None, IsTrue, slice_get, if◌then◌else◌}
 use Rattle.std.specs.List.{AllByRecursion}
 use Rattle.flat_tree.specs.Subtrees.{Subtree}
 use Rattle.flat_tree.specs.Roots.{full_roots_of}
@@ -13,7 +13,7 @@ use Rattle.node_set.specs.Contents.{Content, Values, roots_at}
 use Rattle.node_set.specs.Whole.{IsSound, KeepsLimits}
 use Rattle.node_set.specs.Closure.{closed_on}
 use Rattle.node_set.specs.Nodes.{NodePages, values_of}
-use Rattle.node_set.specs.Views.{ViewState}
+use Rattle.node_set.specs.Views.{ViewState, is_of_store}
 
 -- the parts of a view in memory: its head, whether each index is held, the nodes and the blocks on hand
 pub record Parts : Type 0 where
@@ -76,7 +76,17 @@ new_table parts stands = record {
 
 -- each fault that it answers is counted as one of the outside
 abbrev pub state_of : Table → ViewState
-state_of table = record { content = shown table.parts; stands = table.stands; faults = table.told; answered = table.told; last = table.last }
+state_of table = record {
+  content = shown table.parts;
+  stands = table.stands;
+  shows = true;
+  past = None;
+  moment = 0;
+  faults = table.told;
+  tells = is_of_store;
+  answered = table.told;
+  last = table.last;
+}
 
 -- what such a view keeps
 pub record IsTable (table : Table) : Type 0 where

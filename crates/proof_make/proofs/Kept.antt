@@ -1,5 +1,5 @@
 -- What a later call over a view tells of an earlier moment, where the content stayed between.
-use Rattle.std.proofs.Common.{◌≡◌, ℕ, IsTrue, sym, subst, ap, ◌∙◌, ◌+◌, List, [], ◌∷◌, ◌++◌, length, length-append, arith}
+use Rattle.std.proofs.Common.{◌≡◌, ℕ, Bool, IsTrue, sym, subst, ap, ◌∙◌, ◌+◌, List, [], ◌∷◌, ◌++◌, length, length-append, arith}
 use Rattle.std.specs.List.{AllByRecursion}
 use Rattle.node_set.specs.declared.fault.CoreFault.{CoreFault}
 use Rattle.node_set.specs.Contents.{Content}
@@ -18,6 +18,7 @@ told_since old now new fault kept told = record {
   last = told.last;
   cause = λ is. omega (arith, told.cause is, kept.faults);
   stands = λ stands. told.stands (subst IsTrue (sym kept.keeps.stands) stands);
+  own = ap (λ (tells : CoreFault → Bool). tells fault) (sym kept.keeps.tells) ∙ told.own;
 }
 
 -- what holds of each holds of one more

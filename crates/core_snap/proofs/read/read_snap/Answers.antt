@@ -2,7 +2,7 @@ use Rattle.std.proofs.Common.{◌≤◌, ◌/◌, ◌^◌, IsTrue, subst, sym, a
 use Rattle.flat_tree.specs.Subtrees.{end_block_of}
 use Rattle.flat_tree.specs.declared.limits.TheConstants.{MAX_BLOCKS}
 use Rattle.node_set.specs.Whole.{IsSound}
-use Rattle.node_set.specs.Contents.{Content}
+use Rattle.node_set.specs.Contents.{Content, twig_at}
 use Rattle.core_snap.proofs.WayLemmas.{root_number, stored_is}
 use Rattle.core_snap.proofs.read.read_snap.Goals as goal
 
@@ -35,4 +35,7 @@ read_up-requires-clause-root g c =
       stored = λ stands.
           let is = sym (c.in-Ok-true.ensures.stored (subst IsTrue keeps.stands stands)) ∙ c.in-Ok-true.field-0-test in
           ap (λ (m : Content). m.node levels (c.args.index / 2 ^ levels)) keeps.content ∙ stored_is _ _ is;
+      shown = λ shows.
+          ap (λ (m : Content). twig_at m.node levels (c.args.index / 2 ^ levels)) keeps.content
+          ∙ c.in-Ok-true.ensures.shown (subst IsTrue keeps.shows shows) (search rules);
     }

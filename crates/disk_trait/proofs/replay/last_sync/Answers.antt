@@ -1,4 +1,4 @@
-use Rattle.std.proofs.Common.{◌≡◌, ◌<◌, ◌+◌, ◌-◌, false, length, drop, ap, sym, ◌∙◌, arith}
+use Rattle.std.proofs.Common.{◌≡◌, ◌+◌, ◌-◌, drop, ap, sym, ◌∙◌, arith}
 use Rattle.disk_trait.specs.Journal.{has_sync}
 use Rattle.disk_trait.proofs.Replays.{last_is, none_is}
 use Rattle.disk_trait.proofs.replay.last_sync.Goals as goal

@@ -1,4 +1,4 @@
-use Rattle.std.proofs.Common.{◌<◌, length, Option, Some, Err, sym, ap, refl, ◌∙◌, arith}
+use Rattle.std.proofs.Common.{◌<◌, length, Option, Some, sym, ap, refl, ◌∙◌, arith}
 use Rattle.commit_book.specs.declared.commit.Commit.TheVariants.{Append as AppendCommit}
 use Rattle.core_state.specs.Events.Event.{Append}
 use Rattle.node_set.specs.Contents.{bytes_under}

@@ -8,6 +8,7 @@ use Rattle.core_state.specs.Events.Reply.{Bits}
 use Rattle.core_disk.specs.InHand.{InHand}
 use Rattle.core_disk.specs.Cored.{Cored, core_state}
 use Rattle.core_disk.proofs.CoredLemmas.{broken_acts}
+use Rattle.core_disk.proofs.OnlyReading.{none_read}
 use Rattle.core_disk.proofs.ReadActs.{page_acts}
 use Rattle.core_disk.proofs.disk_core.DiskCore.bits.Goals as goal
 
@@ -31,3 +32,9 @@ returns-clause-acts g c =
     let page = c.page.ensures ∙ ap (λ (hand : InHand). page_of (has hand.held) c.args.number) same in
     subst (λ (b : Option ℕ). Acts true (core_state accepts disk now.store.hand b) (Page c.args.number) (core_state accepts disk now.store.hand b) (Bits (Ok c.page.new.out)))
     (sym none) (page_acts accepts disk now.store.hand c.failed_at.ensures.kept c.args.number c.page.new.out page)
+
+pub returns-in-Some-clause-leaves : goal.returns-in-Some-clause-leaves
+returns-in-Some-clause-leaves g c = none_read g.D.Disk.disk c.args.self.now
+
+pub returns-clause-leaves : goal.returns-clause-leaves
+returns-clause-leaves g c = none_read g.D.Disk.disk c.args.self.now

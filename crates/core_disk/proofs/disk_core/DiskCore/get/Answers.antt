@@ -6,7 +6,9 @@ use Rattle.core_state.specs.Events.Reply.{Read}
 use Rattle.core_state.specs.Next.{answer_in}
 use Rattle.core_disk.specs.InHand.{IsKept}
 use Rattle.core_disk.specs.Cored.{Cored, core_state}
+use Rattle.core_disk.specs.Reading.{OnlyReads, ReadsBlock}
 use Rattle.core_disk.proofs.CoredLemmas.{broken_acts}
+use Rattle.core_disk.proofs.OnlyReading.{cored, none_read, only_read, broken_reads, reads_block}
 use Rattle.core_disk.proofs.ReadActs.{get_acts}
 use Rattle.core_disk.proofs.disk_core.DiskCore.get.Goals as goal
 
@@ -34,3 +36,24 @@ returns-clause-acts g c =
     c.self.view_is
     (subst (λ (b : Option ℕ). Acts true (core_state accepts (g.D.Disk.disk inside.store.disk) inside.store.hand b) (Get c.args.index)
     (core_state accepts after c.read_held.new.view.hand b) (Read (answer_in c.read_held.new.out c.read_held.result))) (sym broken) acts)
+
+pub returns-in-Some-clause-leaves : goal.returns-in-Some-clause-leaves
+returns-in-Some-clause-leaves g c = none_read g.D.Disk.disk c.args.self.now
+
+pub returns-clause-leaves : goal.returns-clause-leaves
+returns-clause-leaves g c =
+    let inside = c.self.inside in
+    let now = cored c.read_held.new.view inside.file inside.auth inside.broken in
+    subst (λ (core : Cored _ _). OnlyReads g.D.Disk.disk core now) c.self.view_is
+    (only_read g.D.Disk.disk g.met.D.Disk.rests (cored inside.store inside.file inside.auth inside.broken) now refl refl refl c.read_held.ensures.keeps.keeps c.read_held.ensures.keeps.faults)
+
+pub returns-in-Some-clause-ends : goal.returns-in-Some-clause-ends
+returns-in-Some-clause-ends g c = broken_reads g.D.Disk.disk c.args.self.now c.args.self.now c.args.index c.args.buf.now c.in-Some.count (sym c.failed_at.ensures.broken ∙ c.in-Some.is)
+
+pub returns-clause-ends : goal.returns-clause-ends
+returns-clause-ends g c =
+    let inside = c.self.inside in
+    let now = cored c.read_held.new.view inside.file inside.auth inside.broken in
+    subst (λ (core : Cored _ _). ReadsBlock g.D.Disk.disk core now c.args.index c.read_held.new.out c.read_held.result) c.self.view_is
+    (reads_block g.D.Disk.disk (cored inside.store inside.file inside.auth inside.broken) now c.args.index c.read_held.new.out c.read_held.result c.read_held.ensures.refused
+    c.read_held.ensures.cause c.read_held.ensures.kept)

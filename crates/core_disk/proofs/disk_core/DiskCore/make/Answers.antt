@@ -6,7 +6,9 @@ use Rattle.core_state.specs.Events.Reply.{Made}
 use Rattle.core_state.specs.Events.{proof_in}
 use Rattle.core_disk.specs.InHand.{IsKept}
 use Rattle.core_disk.specs.Cored.{Cored, core_state}
+use Rattle.core_disk.specs.Reading.{OnlyReads}
 use Rattle.core_disk.proofs.CoredLemmas.{broken_acts}
+use Rattle.core_disk.proofs.OnlyReading.{cored, none_read, only_read}
 use Rattle.core_disk.proofs.ReadActs.{make_acts}
 use Rattle.core_disk.proofs.disk_core.DiskCore.make.Goals as goal
 
@@ -34,3 +36,13 @@ returns-clause-acts g c =
     c.self.view_is
     (subst (λ (b : Option ℕ). Acts true (core_state accepts (g.D.Disk.disk inside.store.disk) inside.store.hand b) (Make c.args.request.now)
     (core_state accepts after c.make.new.view.hand b) (Made (proof_in c.make.result))) (sym broken) acts)
+
+pub returns-in-Some-clause-leaves : goal.returns-in-Some-clause-leaves
+returns-in-Some-clause-leaves g c = none_read g.D.Disk.disk c.args.self.now
+
+pub returns-clause-leaves : goal.returns-clause-leaves
+returns-clause-leaves g c =
+    let inside = c.self.inside in
+    let now = cored c.make.new.view inside.file inside.auth inside.broken in
+    subst (λ (core : Cored _ _). OnlyReads g.D.Disk.disk core now) c.self.view_is
+    (only_read g.D.Disk.disk g.met.D.Disk.rests (cored inside.store inside.file inside.auth inside.broken) now refl refl refl c.make.ensures.keeps.keeps c.make.ensures.keeps.faults)

@@ -6,7 +6,9 @@ use Rattle.core_state.specs.Events.Reply.{Number}
 use Rattle.merkle_nodes.specs.declared.roots.Head.{Head}
 use Rattle.core_disk.specs.InHand.{InHand, IsKept}
 use Rattle.core_disk.specs.Cored.{Cored, core_state}
+use Rattle.core_disk.specs.Reading.{OnlyReads}
 use Rattle.core_disk.proofs.CoredLemmas.{broken_acts}
+use Rattle.core_disk.proofs.OnlyReading.{cored, none_read, only_read}
 use Rattle.core_disk.proofs.ReadActs.{view_keeps, need_acts, need_refused_acts}
 use Rattle.core_disk.proofs.disk_core.DiskCore.need.Goals as goal
 
@@ -51,3 +53,16 @@ returns-then-end-index-clause-acts g c =
     (sym long)
     (subst (λ (b : Option ℕ). Acts true (core_state accepts disk now.store.hand b) (Need c.args.index) (core_state accepts disk now.store.hand b) (Number (Err (OutOfRange now.store.hand.head.length))))
     (sym none) (need_refused_acts accepts disk now.store.hand c.failed_at.ensures.kept c.args.index past))
+
+pub returns-in-Some-clause-leaves : goal.returns-in-Some-clause-leaves
+returns-in-Some-clause-leaves g c = none_read g.D.Disk.disk c.args.self.now
+
+pub returns-clause-leaves : goal.returns-clause-leaves
+returns-clause-leaves g c =
+    let inside = c.self.inside in
+    let now = cored c.need.new.view inside.file inside.auth inside.broken in
+    subst (λ (core : Cored _ _). OnlyReads g.D.Disk.disk core now) c.self.view_is
+    (only_read g.D.Disk.disk g.met.D.Disk.rests (cored inside.store inside.file inside.auth inside.broken) now refl refl refl c.need.ensures.keeps c.need.ensures.cause.faults)
+
+pub returns-then-end-index-clause-leaves : goal.returns-then-end-index-clause-leaves
+returns-then-end-index-clause-leaves g c = none_read g.D.Disk.disk c.args.self.now

@@ -7,8 +7,7 @@ use Rattle.core_disk.specs.Laid.{outline}
 use Rattle.core_disk.proofs.replay.DiskState.bytes_of.Goals as goal
 
 pub returns-in-Some-clause-size : goal.returns-in-Some-clause-size
-returns-in-Some-clause-size c = λ fit depth offset is.
+returns-in-Some-clause-size c = λ depth offset is.
     let there = c.in-Some.ensures.value depth offset is in
-    let fits = fit depth offset (twig_of c.in-Some.node) (sym there) in
     let size = ap (λ (twig : Twig). twig.size) (twig_at-some (outline (opened_of c.args.self.now)).node depth offset (twig_of c.in-Some.node) (sym there)) in
-    omega (arith, c.min.ensures, size, fits.size)
+    omega (arith, c.min.ensures, size)

@@ -1,4 +1,4 @@
-use Rattle.std.proofs.Common.{◌≡◌, ℕ, length, ◌++◌, ◌∷◌, [], ap, arith, ◌∙◌, rules, length-append}
+use Rattle.std.proofs.Common.{◌≡◌, length, ◌∷◌, ap, arith, ◌∙◌, rules, length-append}
 use Rattle.std.proofs.lemmas.List.{length_push}
 use Rattle.disk_trait.specs.History.{wrote}
 use Rattle.disk_trait.specs.Journal.{JournalView}

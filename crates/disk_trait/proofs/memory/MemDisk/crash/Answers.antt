@@ -1,4 +1,3 @@
-use Rattle.std.proofs.Common.{◌≡◌, refl, sym, ◌∙◌, arith}
 use Rattle.disk_trait.proofs.CrashImages.{crash_is_image}
 use Rattle.disk_trait.proofs.memory.MemDisk.crash.Goals as goal
 

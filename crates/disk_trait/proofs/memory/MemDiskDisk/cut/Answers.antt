@@ -1,4 +1,4 @@
-use Rattle.std.proofs.Common.{◌≡◌, ◌≤◌, refl, arith, rules}
+use Rattle.std.proofs.Common.{refl, arith}
 use Rattle.disk_trait.proofs.Calls.{cut_failed, cut_done}
 use Rattle.disk_trait.proofs.memory.MemDiskDisk.cut.Goals as goal
 

@@ -1,4 +1,4 @@
-use Rattle.std.proofs.Common.{◌≡◌, ◌≤◌, refl, arith, rules}
+use Rattle.std.proofs.Common.{refl}
 use Rattle.disk_trait.proofs.Calls.{sync_done}
 use Rattle.disk_trait.proofs.memory.MemDiskDisk.sync.Goals as goal
 

@@ -1,4 +1,4 @@
-use Rattle.std.proofs.Common.{◌≡◌, ◌≤◌, refl, arith, rules}
+use Rattle.std.proofs.Common.{refl, arith}
 use Rattle.disk_trait.proofs.Calls.{write_failed, write_done}
 use Rattle.disk_trait.proofs.memory.MemDiskDisk.write.Goals as goal
 

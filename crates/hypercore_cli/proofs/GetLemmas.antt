@@ -135,6 +135,15 @@ module _ {D A : Type 0} (disk : D → DiskView) (authority : A → List ℕ → 
             | inr at ↦ absurd (absent index (same ∙ at))
           ]
 
+  -- nor is it where a block was read
+  block_unrefused : (place : List ℕ) (read : ReadAt) → CoreReads disk core now index place (Ok read) → read_refusal (shown disk core).length (held (shown disk core)) index ≡ None
+  block_unrefused place read reads = of (read_refusal (shown disk core).length (held (shown disk core)) index) refl
+    where
+      of : (found : Option CoreFault) → read_refusal (shown disk core).length (held (shown disk core)) index ≡ found
+          → read_refusal (shown disk core).length (held (shown disk core)) index ≡ None
+      of None is = is
+      of (Some other) is = let clash : Ok read ≡ Err other = reads.refused other taken.says.unbroken is in absurd cc
+
   -- a fault that no content answers tells that the disk stood for none
   reads_unfit : (place : List ℕ) (fault : CoreFault) (IsFound : Content → Type 0) → IsFound (shown disk core) → (fault ≡ StoreFault → ⊥)
       → ((end : ℕ) → fault ≡ OutOfRange end → ⊥) → ((at : ℕ) → fault ≡ Unavailable at → ⊥) → CoreReads disk core now index place (Err fault)
@@ -187,5 +196,6 @@ module _ {D A : Type 0} (disk : D → DiskView) (authority : A → List ℕ → 
           content = λ m stood. elim (answers (answer_in place (Ok read)) acted m stood) [ inl here ↦ here | inr failed ↦ absurd cc ];
           kept = as_given place (Ok read) given;
         };
+        unrefused = block_unrefused place read given;
         proved = acted.safe;
       }

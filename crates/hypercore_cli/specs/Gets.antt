@@ -25,9 +25,10 @@ pub record Reads (c : NamedCore) (index : ℕ) (answer : Result Answer CoreFault
   pub content : (m : Content) → StoodFor c m → get_of m index ≡ answer
   pub kept : IsTrue c.old.honest → SizesFit shown.node → read_of shown index ≡ answer
 
--- a block was read, which over every shelf and disk is proved under the head that was opened
+-- a block was read, which over every shelf and disk is held where it was opened, and proved under the head that was
 pub record ReadsBlock (c : NamedCore) (index : ℕ) (answer : Answer) : Type 0 where
   pub reads : Reads c index (Ok answer)
+  pub unrefused : read_refusal reads.shown.length (held reads.shown) index ≡ None
   pub proved : Proves reads.shown.length (roots reads.shown) index answer.block answer.trail
 
 -- none was, since over every shelf and disk the index isn't below the length that was opened, or its block isn't held there

@@ -242,17 +242,20 @@ not_refused_of : (refusal : Option Refusal) → refused refusal ≡ None → ref
 not_refused_of None none = refl
 not_refused_of (Some refusal) none = let clash : Some (Refused refusal) ≡ None = none in cc
 
--- a proof that wasn't refused for its fork is judged so far
-pub served_by : {T : Type 0} (value : T) (m : Content) (p : Proof)
-    → (m.fork < p.fork → IsSome p.upgrade → Ok value ≡ Err (Refused (NewFork m.fork))) → IsServed p m
-served_by value m p new_fork = elim (cases_lt m.fork p.fork) [ inr no_greater ↦ inl no_greater | inl less ↦ inr (ByUpgrade less p.upgrade refl) ]
+-- a proof is judged so far unless its upgrade is under a greater fork
+pub served_unless : (m : Content) (p : Proof) → (m.fork < p.fork → IsSome p.upgrade → ⊥) → IsServed p m
+served_unless m p none = elim (cases_lt m.fork p.fork) [ inr no_greater ↦ inl no_greater | inl less ↦ inr (ByUpgrade less p.upgrade refl) ]
   where
     ByUpgrade : m.fork < p.fork → (upgrade : Option UpgradePart) → p.upgrade ≡ upgrade → p.upgrade ≡ None
     ByUpgrade less None up = up
     ByUpgrade less (Some u) up =
-        let some : IsSome p.upgrade = subst (λ (upgrade : Option UpgradePart). IsSome upgrade) (sym up) refl in
-        let clash : Ok value ≡ Err (Refused (NewFork m.fork)) = new_fork less some in
-        cc
+        absurd (none less (subst (λ (upgrade : Option UpgradePart). IsSome upgrade) (sym up) refl))
+
+-- one that wasn't refused for its fork is judged
+pub served_by : {T : Type 0} (value : T) (m : Content) (p : Proof)
+    → (m.fork < p.fork → IsSome p.upgrade → Ok value ≡ Err (Refused (NewFork m.fork))) → IsServed p m
+served_by value m p new_fork =
+    served_unless m p (λ less some. let clash : Ok value ≡ Err (Refused (NewFork m.fork)) = new_fork less some in cc)
 
 module _ (accepts : List ℕ → List ℕ → Bool) (p : Proof) (old seen new : ViewState) (change : Change) (judges : IsJudged accepts p old seen (Ok change))
     (keeps : KeepsView seen new) where

@@ -5,13 +5,14 @@ use Rattle.disk_trait.specs.declared.disk.Area.TheVariants.{Blocks as BlocksArea
 use Rattle.disk_trait.specs.Disk.{DiskView, MayStay}
 use Rattle.flat_tree.specs.declared.limits.TheConstants.{MAX_BLOCKS}
 use Rattle.commit_book.specs.declared.commit.Commit.{Commit}
+use Rattle.merkle_nodes.specs.declared.limit.What.TheVariants.{Oplog as EntriesBytes}
 use Rattle.oplog_form.specs.declared.entry.Entry.{Entry}
 use Rattle.oplog_form.specs.Entries.{entry_spelling}
 use Rattle.oplog_file.specs.Files.{File}
 use Rattle.oplog_file.specs.Writers.{Place, IsBehind, with_entry, Stands as StandsThere}
 use Rattle.oplog_file.specs.Storing.{Calls}
 use Rattle.node_set.specs.declared.fault.CoreFault.{CoreFault}
-use Rattle.node_set.specs.declared.fault.CoreFault.TheVariants.{Memory, Broken, StoreFault}
+use Rattle.node_set.specs.declared.fault.CoreFault.TheVariants.{Memory, Broken, StoreFault, Limit}
 use Rattle.node_set.specs.declared.fault.Receipt.{Receipt}
 use Rattle.node_set.specs.Contents.{Content}
 use Rattle.core_state.specs.Events.{Event}
@@ -28,6 +29,7 @@ use Rattle.core_disk.specs.Firm.{WritesChange}
 use Rattle.core_disk.specs.Committing.{TakesIn, Tells, IsCommitFault}
 use Rattle.core_disk.specs.Cored.{Cored, core_state, state_of, shown, ChangesDisk}
 use Rattle.core_disk.proofs.CoredLemmas.{Stands, Plan, bounded, stands_told, broken_acts, done_acts}
+use Rattle.core_disk.proofs.ChangeRefusals.{next_other}
 use Rattle.core_disk.proofs.SafeChanges.{told_fault, rests_disk, written_disk}
 
 -- a change has no answer that isn't safe
@@ -77,13 +79,14 @@ module _ {D A : Type 0} (disk : D → DiskView) (accepts : A → List ℕ → Li
       acts = subst (λ (b : Option ℕ). Acts true (seen_with b now) event (seen_with b now) (Done (Err (Broken count)))) (sym broke)
           (broken_acts (accepts now.auth) (disk now.store.disk) now.store.hand count event (Done (Err (Broken count))) kept refl refl
           (safe_done (shown disk now) event (Err (Broken count))) (λ new. own (seen_with (Some count) now) new (Broken count) refl));
-      changes = rests_disk disk accepts event now (Err (Broken count)) (λ is. cc) (λ other is. let same : Some count ≡ Some other = sym broke ∙ is in cc);
+      changes = rests_disk disk accepts event now (Err (Broken count)) (λ is. cc) (λ other is. let same : Some count ≡ Some other = sym broke ∙ is in cc) (λ max stands is. cc);
     })
 
-    still_does : now.broken ≡ None → (answer : Result Receipt CoreFault) → answer ≢ Err StoreFault → commit_in (Done answer) ≡ None
+    still_does : now.broken ≡ None → (answer : Result Receipt CoreFault) → answer ≢ Err StoreFault → ((max : ℕ) → StandsOn now → answer ≡ Err (Limit EntriesBytes max) → ⊥)
+        → commit_in (Done answer) ≡ None
         → (StandsOn now → Next (accepts now.auth) (shown disk now) event (shown disk now) (Done answer) ⊎ Fails true (seen now) event (seen now) (Done answer))
         → Does now new answer
-    still_does whole answer other none next = subst (λ (core : Cored D A). Does now core answer) (sym same) (record {
+    still_does whole answer other room none next = subst (λ (core : Cored D A). Does now core answer) (sym same) (record {
       acts = record {
         accepts = refl;
         fills = refl;
@@ -96,7 +99,8 @@ module _ {D A : Type 0} (disk : D → DiskView) (accepts : A → List ℕ → Li
         safe = safe_done (shown disk now) event answer;
         broken = λ count broke. let clash : None ≡ Some count = sym whole ∙ broke in cc;
       };
-      changes = rests_disk disk accepts event now answer other (λ count is. let clash : None ≡ Some count = sym whole ∙ is in cc);
+      changes = rests_disk disk accepts event now answer other (λ count is. let clash : None ≡ Some count = sym whole ∙ is in cc)
+          (λ max stands. room max (told stands));
     })
       where
         told : IsTrue (seen now).stands → StandsOn now
@@ -118,7 +122,9 @@ module _ {D A : Type 0} (disk : D → DiskView) (accepts : A → List ℕ → Li
       follows_does answer other none next =
           let here : Follows answer (accepts now.auth) now.store =
           subst (λ (c : Cored D A). Follows answer (accepts c.auth) c.store) is (subst (Follows answer (accepts core.auth)) store_is next) in
-          still_does whole answer other none (λ stands. inl (here stands))
+          still_does whole answer other (λ max stands is. next_other (accepts now.auth) (shown disk now) event (shown disk now) max
+          (subst (λ (told : Result Receipt CoreFault). Next (accepts now.auth) (shown disk now) event (shown disk now) (Done told)) is (here stands)))
+          none (λ stands. inl (here stands))
 
       pub rests_does : (receipt : Receipt) → receipt ≡ receipt_of (shown disk now) None → Follows (Ok (receipt_of m None)) (accepts core.auth) store
           → Does now new (Ok receipt)
@@ -133,7 +139,7 @@ module _ {D A : Type 0} (disk : D → DiskView) (accepts : A → List ℕ → Li
           → Does now new (Err answer)
       refused_does own fault answer of_store of_other next = elim (is_of_store fault) [
         | inl failed ↦ rw (of_store failed)
-            (still_does whole (Err Memory) (λ is. cc) refl (λ stands.
+            (still_does whole (Err Memory) (λ is. cc) (λ max stands is. cc) refl (λ stands.
             inr (record { fault = Memory; answered = refl; own = own (seen now) (seen now) Memory refl; content = refl })))
         | inr other ↦ rw (of_other other) (follows_does (Err fault) (λ is. other (ap told_fault is)) refl (λ stands. next stands other))
       ]
@@ -152,7 +158,7 @@ module _ {D A : Type 0} (disk : D → DiskView) (accepts : A → List ℕ → Li
   -- what its answer tells
   pub record IsAnswered (e : Entry) (done : Result (Unit {0}) CoreFault) (old : Cored D A) (store : Stored D) (place : Place) : Type 0 where
     pub err : OnErr done (StandsThere old.place place)
-    pub why : IfErr done (IsCommitFault e (opened_of old.store.hand) (disk old.store.disk) (disk store.disk))
+    pub why : IfErr done (IsCommitFault old.place.used e (opened_of old.store.hand) (disk old.store.disk) (disk store.disk))
     pub quiet : IfErr done (λ (fault : CoreFault). (fault ≡ StoreFault) ⊎ (store.disk ≡ old.store.disk))
     pub calls : Calls 4 (disk old.store.disk) (disk store.disk) done
 
@@ -188,9 +194,9 @@ module _ {D A : Type 0} (disk : D → DiskView) (accepts : A → List ℕ → Li
         (ap (λ (c : Cored D A). c.broken) is ∙ whole) told.tells in
         record {
           acts = rw (whole, auth)
-              (done_acts (accepts now.auth) (disk now.store.disk) (disk new.store.disk) now.store.hand new.store.hand new.broken e event part done answer
+              (done_acts (accepts now.auth) (disk now.store.disk) (disk new.store.disk) now.store.hand new.store.hand new.broken now.place.used e event part done answer
               kept told.kept rooted few plan_now gives.takes answers.calls gives.torn gives.laid_is answers.why tells (safe_done (shown disk now) event)
               (own (seen_with None now) (core_state (accepts now.auth) (disk new.store.disk) new.store.hand new.broken)));
           changes = written_disk disk accepts event now new e part done answer stays auth whole kept told.kept rooted plan_now
-              gives.takes gives.writes gives.behind gives.laid_is answers.err answers.quiet answers.calls tells;
+              gives.takes gives.writes gives.behind gives.laid_is answers.err answers.why answers.quiet answers.calls tells;
         }

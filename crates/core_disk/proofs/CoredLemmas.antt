@@ -276,35 +276,35 @@ module _ (accepts : List ℕ → List ℕ → Bool) (old new : DiskView) (hand a
     }
 
 -- a fault of writing a change, of a core whose entry is fit where it stands
-change_fault : (accepts : List ℕ → List ℕ → Bool) (old new : DiskView) (hand after : InHand) (now : Option ℕ) (e : Entry) (fault : CoreFault) → IsKept hand
-    → (Stands accepts old hand → IsFit e (opened_of hand)) → IsCommitFault e (opened_of hand) old new fault
+change_fault : (accepts : List ℕ → List ℕ → Bool) (old new : DiskView) (hand after : InHand) (now : Option ℕ) (used : ℕ) (e : Entry) (fault : CoreFault) → IsKept hand
+    → (Stands accepts old hand → IsFit e (opened_of hand)) → IsCommitFault used e (opened_of hand) old new fault
     → IsChangeFault true (core_state accepts old hand None) (core_state accepts new after now) fault
-change_fault accepts old new hand after now e Memory kept fit why = refl
-change_fault accepts old new hand after now e (Limit what max) kept fit why = limit_fault what why.0
+change_fault accepts old new hand after now used e Memory kept fit why = refl
+change_fault accepts old new hand after now used e (Limit what max) kept fit why = limit_fault what why.0
   where
     limit_fault : (w : What) → w ≡ EntriesBytes → IsChangeFault true (core_state accepts old hand None) (core_state accepts new after now) (Limit w max)
     limit_fault w is =
         subst (λ (v : What). IsChangeFault true (core_state accepts old hand None) (core_state accepts new after now) (Limit v max)) (sym is) refl
-change_fault accepts old new hand after now e StoreFault kept fit why = why
-change_fault accepts old new hand after now e (BadStore area at) kept fit why = elim (cases_Bool (core_state accepts old hand None).stands) [
+change_fault accepts old new hand after now used e StoreFault kept fit why = why
+change_fault accepts old new hand after now used e (BadStore area at) kept fit why = elim (cases_Bool (core_state accepts old hand None).stands) [
   | inl stands ↦ absurd (why (fit (stands_told accepts old hand None (bounded old hand kept) stands)))
   | inr down ↦ down
 ]
-change_fault accepts old new hand after now e other kept fit why = absurd why
+change_fault accepts old new hand after now used e other kept fit why = absurd why
 
 -- A change wasn't taken in: what is in memory is as it was, and so are the blocks that were held.
-pub unwritten_acts : (accepts : List ℕ → List ℕ → Bool) (old new : DiskView) (hand after : InHand) (now : Option ℕ) (e : Entry) (event : Event) (part : Option Part)
+pub unwritten_acts : (accepts : List ℕ → List ℕ → Bool) (old new : DiskView) (hand after : InHand) (now : Option ℕ) (used : ℕ) (e : Entry) (event : Event) (part : Option Part)
     (fault : CoreFault) → IsKept hand → IsRooted (opened_of hand)
     → (Stands accepts old hand → Plan accepts (content_of old hand) (opened_of hand) event e part) → opened_of after ≡ opened_of hand
     → new.honest ≡ old.honest → old.faults ≤ new.faults → ((now ≡ None) ⊎ (IsTrue (is_change event) × Rose old.faults new.faults))
-    → (IsTrue old.honest → TornBy part (old.reads BlocksArea) (new.reads BlocksArea)) → IsCommitFault e (opened_of hand) old new fault
+    → (IsTrue old.honest → TornBy part (old.reads BlocksArea) (new.reads BlocksArea)) → IsCommitFault used e (opened_of hand) old new fault
     → (IsChangeFault true (core_state accepts old hand None) (core_state accepts new after now) fault
     → IsOwnFault true (core_state accepts old hand None) event (core_state accepts new after now) fault)
     → IsSafe (content_of old hand) event (Done (Err fault))
     → Acts true (core_state accepts old hand None) event (core_state accepts new after now) (Done (Err fault))
-unwritten_acts accepts old new hand after now e event part fault kept rooted plan same honest faults breaks torn why own safe =
+unwritten_acts accepts old new hand after now used e event part fault kept rooted plan same honest faults breaks torn why own safe =
     fails_acts accepts old new hand after now event fault kept rooted (agrees_same same) honest faults breaks blocks
-    (own (change_fault accepts old new hand after now e fault kept (fit_of accepts old new hand after e event part kept rooted plan) why)) safe
+    (own (change_fault accepts old new hand after now used e fault kept (fit_of accepts old new hand after e event part kept rooted plan) why)) safe
   where
     agrees_same : {one other : Opened} → one ≡ other → Agrees one other
     agrees_same {other = other} is =
@@ -319,25 +319,25 @@ unwritten_acts accepts old new hand after now e event part fault kept rooted pla
         (torn is.honest))
 
 -- a change that was planned, of which it is told whether it was written
-pub done_acts : (accepts : List ℕ → List ℕ → Bool) (old new : DiskView) (hand after : InHand) (now : Option ℕ) (e : Entry) (event : Event) (part : Option Part)
+pub done_acts : (accepts : List ℕ → List ℕ → Bool) (old new : DiskView) (hand after : InHand) (now : Option ℕ) (used : ℕ) (e : Entry) (event : Event) (part : Option Part)
     (done : Result (Unit {0}) CoreFault) (answer : Result Receipt CoreFault) → IsKept hand → IsKept after → IsRooted (opened_of hand) → e.head.length ≤ MAX_BLOCKS
     → (Stands accepts old hand → Plan accepts (content_of old hand) (opened_of hand) event e part)
     → TakesIn e (opened_of hand) (opened_of after) done → Calls 4 old new done
     → (IsTrue old.honest → TornBy part (old.reads BlocksArea) (new.reads BlocksArea))
     → (IsTrue old.honest → OnOk done (new.reads BlocksArea ≡ laid part (old.reads BlocksArea)))
-    → IfErr done (IsCommitFault e (opened_of hand) old new)
+    → IfErr done (IsCommitFault used e (opened_of hand) old new)
     → Tells (receipt_of (content_of new after)) e.commit new.faults None done now answer
     → ((given : Result Receipt CoreFault) → IsSafe (content_of old hand) event (Done given))
     → ((fault : CoreFault) → IsChangeFault true (core_state accepts old hand None) (core_state accepts new after now) fault
     → IsOwnFault true (core_state accepts old hand None) event (core_state accepts new after now) fault)
     → Acts true (core_state accepts old hand None) event (core_state accepts new after now) (Done answer)
-done_acts accepts old new hand after now e event part (Ok _) answer kept kept_after rooted few plan takes calls torn laid_is why tells safe own =
+done_acts accepts old new hand after now used e event part (Ok _) answer kept kept_after rooted few plan takes calls torn laid_is why tells safe own =
     rw (tells.0, tells.1)
     (commits_acts accepts old new hand after e event part kept rooted plan kept_after few takes.0 takes.1 calls.honest calls.kept laid_is
     (receipt_of (content_of new after) (Some e.commit)) refl (safe _))
-done_acts accepts old new hand after now e event part (Err fault) answer kept kept_after rooted few plan takes calls torn laid_is why tells safe own =
+done_acts accepts old new hand after now used e event part (Err fault) answer kept kept_after rooted few plan takes calls torn laid_is why tells safe own =
     rw (tells.0)
-    (unwritten_acts accepts old new hand after now e event part fault kept rooted plan takes calls.honest calls.kept breaks torn why (own fault) (safe _))
+    (unwritten_acts accepts old new hand after now used e event part fault kept rooted plan takes calls.honest calls.kept breaks torn why (own fault) (safe _))
   where
     breaks : (now ≡ None) ⊎ (IsTrue (is_change event) × Rose old.faults new.faults)
     breaks = elim tells.1 [

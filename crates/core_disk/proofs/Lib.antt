@@ -40,6 +40,7 @@ pub mod CutPlans
 pub mod AdmitPlan
 pub mod BytesBefore
 pub mod CommitFits
+pub mod ChangeRefusals
 pub mod SafeChanges
 pub mod StandingDisks
 pub mod ChangeActs

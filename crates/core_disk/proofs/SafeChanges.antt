@@ -7,6 +7,7 @@ use Rattle.disk_trait.specs.declared.disk.Area.TheVariants.{Blocks as BlocksArea
 use Rattle.disk_trait.specs.Disk.{DiskView, MayStay}
 use Rattle.disk_trait.proofs.Runs.{starts}
 use Rattle.commit_book.specs.declared.commit.Commit.{Commit}
+use Rattle.merkle_nodes.specs.declared.limit.What.TheVariants.{Oplog as EntriesBytes}
 use Rattle.merkle_nodes.specs.declared.roots.Head.{Head}
 use Rattle.oplog_form.specs.declared.entry.Entry.{Entry}
 use Rattle.oplog_form.specs.Entries.{entry_spelling}
@@ -14,8 +15,9 @@ use Rattle.oplog_file.specs.Files.{File}
 use Rattle.oplog_file.specs.Writers.{IsBehind, with_entry, Stands as StandsThere}
 use Rattle.oplog_file.specs.Storing.{Calls}
 use Rattle.node_set.specs.declared.fault.CoreFault.{CoreFault}
-use Rattle.node_set.specs.declared.fault.CoreFault.TheVariants.{Broken, StoreFault}
+use Rattle.node_set.specs.declared.fault.CoreFault.TheVariants.{Broken, StoreFault, Limit}
 use Rattle.node_set.specs.declared.fault.Receipt.{Receipt}
+use Rattle.node_set.specs.Contents.{Content}
 use Rattle.core_state.specs.Events.{Event}
 use Rattle.core_state.specs.States.{receipt_of}
 use Rattle.core_disk.specs.Opened.{Opened, entry_after}
@@ -25,16 +27,17 @@ use Rattle.core_disk.specs.Standing.{HasBlocks, StandsFor}
 use Rattle.core_disk.specs.Stored.{blocks_area}
 use Rattle.core_disk.specs.Plans.{Part, laid}
 use Rattle.core_disk.specs.Firm.{IsFirmFor, WritesChange, Commits}
-use Rattle.core_disk.specs.Committing.{TakesIn, Tells}
-use Rattle.core_disk.specs.Cored.{Cored, shown, ChangesDisk}
-use Rattle.core_disk.proofs.CoredLemmas.{Stands, Plan, comes}
+use Rattle.core_disk.specs.Committing.{TakesIn, Tells, IsCommitFault}
+use Rattle.core_disk.specs.Cored.{Cored, state_of, shown, IsNextBy, IsFull, ChangesDisk}
+use Rattle.core_disk.proofs.CoredLemmas.{Stands, Plan, bounded, stands_told, comes}
 use Rattle.core_disk.proofs.FirmLaws.{firm_stands, firm_there, change_commits}
 
 -- nothing is written
 pub rests_disk : {D A : Type 0} (disk : D → DiskView) (accepts : A → List ℕ → List ℕ → Bool) (event : Event) (core : Cored D A)
     (answer : Result Receipt CoreFault) → answer ≢ Err StoreFault → ((count : ℕ) → core.broken ≡ Some count → answer ≡ Err (Broken count))
+    → ((max : ℕ) → IsTrue (state_of disk accepts core).stands → answer ≡ Err (Limit EntriesBytes max) → ⊥)
     → ChangesDisk disk accepts event core core answer
-rests_disk disk accepts event core answer other told = record {
+rests_disk disk accepts event core answer other told room = record {
   auth = refl;
   honest = refl;
   calls = omega arith;
@@ -42,6 +45,7 @@ rests_disk disk accepts event core answer other told = record {
   rose = λ failed. absurd (other failed);
   broke = λ failed. absurd (other failed);
   breaks = λ answered. refl;
+  full = λ max stands is. absurd (room max stands is);
   safe = λ id honest unbroken firm. record {
     any_moment = inl (starts (disk core.store.disk) (λ areas. StandsFor (accepts core.auth) id areas (shown disk core))
         (firm_stands (accepts core.auth) id (disk core.store.disk) core.place (shown disk core) firm));
@@ -108,6 +112,35 @@ breaks_at receipt commit faults now answer (Err fault) tells failed = elim tells
   | inr kept ↦ absurd (kept.0 (ap told_fault (sym tells.0 ∙ failed)))
 ]
 
+-- the entry of a plan that follows the event
+follows : (accepts : List ℕ → List ℕ → Bool) (m : Content) (o : Opened) (event : Event) (e : Entry) (part : Option Part) (p : Plan accepts m o event e part)
+    → IsNextBy accepts m event p.after e
+follows accepts m o event e part p = record { receipt = receipt_of p.after (Some p.commit); commit = p.commit; next = p.next; commits = refl; is_entry = p.plans.is_entry }
+
+-- a planned change found no room
+full_written : {D A : Type 0} (disk : D → DiskView) (accepts : A → List ℕ → List ℕ → Bool) (event : Event) (old new : Cored D A) (e : Entry)
+    (part : Option Part) (done : Result (Unit {0}) CoreFault) (answer : Result Receipt CoreFault) (max : ℕ)
+    → Plan (accepts old.auth) (shown disk old) (opened_of old.store.hand) event e part
+    → IfErr done (IsCommitFault old.place.used e (opened_of old.store.hand) (disk old.store.disk) (disk new.store.disk))
+    → IfErr done (λ (fault : CoreFault). (fault ≡ StoreFault) ⊎ (new.store.disk ≡ old.store.disk))
+    → Tells (receipt_of (shown disk new)) e.commit (disk new.store.disk).faults old.broken done new.broken answer
+    → answer ≡ Err (Limit EntriesBytes max) → IsFull accepts (shown disk old) event old new max
+full_written disk accepts event old new e part (Ok _) answer max p why quiet tells is = let clash = sym tells.0 ∙ is in cc
+full_written disk accepts event old new e part (Err fault) answer max p why quiet tells is =
+    let same : fault ≡ Limit EntriesBytes max = ap told_fault (sym tells.0 ∙ is) in
+    let cause = subst (IsCommitFault old.place.used e (opened_of old.store.hand) (disk old.store.disk) (disk new.store.disk)) same why in
+    record {
+      most = cause.1;
+      untouched = elim quiet [ inl store ↦ let clash : Limit EntriesBytes max ≡ StoreFault = sym same ∙ store in cc | inr untouched ↦ untouched ];
+      room = record {
+        after = p.after;
+        entry = e;
+        follows = follows (accepts old.auth) (shown disk old) (opened_of old.store.hand) event e part p;
+        few = cause.2;
+        no_room = cause.3;
+      };
+    }
+
 -- a planned change was written, or it failed
 pub written_disk : {D A : Type 0} (disk : D → DiskView) (accepts : A → List ℕ → List ℕ → Bool) (event : Event) (old new : Cored D A) (e : Entry)
     (part : Option Part) (done : Result (Unit {0}) CoreFault) (answer : Result Receipt CoreFault)
@@ -121,11 +154,12 @@ pub written_disk : {D A : Type 0} (disk : D → DiskView) (accepts : A → List 
     → ((whole : File) → IsBehind old.place whole → OnOk done (IsBehind new.place (with_entry (entry_spelling e) whole)))
     → (IsTrue (disk old.store.disk).honest → OnOk done ((disk new.store.disk).reads BlocksArea ≡ laid part ((disk old.store.disk).reads BlocksArea)))
     → OnErr done (StandsThere old.place new.place)
+    → IfErr done (IsCommitFault old.place.used e (opened_of old.store.hand) (disk old.store.disk) (disk new.store.disk))
     → IfErr done (λ (fault : CoreFault). (fault ≡ StoreFault) ⊎ (new.store.disk ≡ old.store.disk))
     → Calls 4 (disk old.store.disk) (disk new.store.disk) done
     → Tells (receipt_of (shown disk new)) e.commit (disk new.store.disk).faults None done new.broken answer
     → ChangesDisk disk accepts event old new answer
-written_disk disk accepts event old new e part done answer stays auth whole kept after rooted plan takes writes behind over there quiet calls tells = record {
+written_disk disk accepts event old new e part done answer stays auth whole kept after rooted plan takes writes behind over there why quiet calls tells = record {
   auth = auth;
   honest = calls.honest;
   calls = calls.few;
@@ -134,6 +168,9 @@ written_disk disk accepts event old new e part done answer stays auth whole kept
   rose = risen (receipt_of (shown disk new)) e.commit (disk old.store.disk) (disk new.store.disk) new.broken answer done calls tells;
   breaks = λ answered.
       unbroken (receipt_of (shown disk new)) e.commit (disk new.store.disk).faults new.broken answer done tells answered ∙ sym whole;
+  full = λ max standing is. full_written disk accepts event old new e part done answer max
+      (plan (stands_told (accepts old.auth) (disk old.store.disk) old.store.hand old.broken (bounded (disk old.store.disk) old.store.hand kept) standing))
+      why quiet (subst (λ (b : Option ℕ). Tells (receipt_of (shown disk new)) e.commit (disk new.store.disk).faults b done new.broken answer) (sym whole) tells) is;
   safe = λ id honest none firm.
       let p = plan (stands id honest firm) in
       let made = makes id honest firm in
@@ -141,7 +178,7 @@ written_disk disk accepts event old new e part done answer stays auth whole kept
         any_moment = inr (record {
           after = p.after;
           entry = e;
-          follows = record { receipt = receipt_of p.after (Some p.commit); commit = p.commit; next = p.next; is_entry = p.plans.is_entry };
+          follows = follows (accepts old.auth) (shown disk old) (opened_of old.store.hand) event e part p;
           file = made.file;
           is_file = made.is_file;
           time = made.time;

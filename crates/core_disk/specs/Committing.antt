@@ -1,5 +1,5 @@
 -- A change is written, and taken in once it is on the disk.
-use Rattle.std.specs.Prelude.{◌≡◌, ◌≢◌, ◌⊎◌, ℕ, true, false, List, Option, Some, Result, Ok, Err, ⊤}
+use Rattle.std.specs.Prelude.{◌≡◌, ◌≢◌, ◌⊎◌, ℕ, ◌≤◌, true, false, List, length, Option, Some, Result, Ok, Err, ⊤}
 use Rattle.outside_traits.specs.Faults.{Rose}
 use Rattle.disk_trait.specs.Disk.{DiskView}
 use Rattle.commit_book.specs.declared.commit.Commit.{Commit}
@@ -8,12 +8,15 @@ use Rattle.merkle_nodes.specs.Roots.{root_hash_of}
 use Rattle.merkle_nodes.specs.declared.node.Node.{Node}
 use Rattle.merkle_nodes.specs.declared.limit.What.TheVariants.{Oplog as EntriesBytes}
 use Rattle.oplog_form.specs.declared.entry.Entry.{Entry}
+use Rattle.oplog_form.specs.declared.entry.TheConstants.{MAX_ENTRY_BYTES}
+use Rattle.oplog_form.specs.Entries.{entry_spelling}
 use Rattle.oplog_file.specs.declared.layout.TheConstants.{MAX_ENTRIES_BYTES}
 use Rattle.node_set.specs.declared.fault.CoreFault.{CoreFault}
 use Rattle.node_set.specs.declared.fault.Receipt.{Receipt}
 use Rattle.node_set.specs.declared.fault.CoreFault.TheVariants.{Memory, Limit, StoreFault, BadStore}
 use Rattle.core_disk.specs.declared.replay.ApplyFault.{ApplyFault}
 use Rattle.core_disk.specs.declared.replay.ApplyFault.TheVariants.{Memory as NoMemory, DoesntFollow}
+use Rattle.core_disk.specs.Bringing.{FindsNoRoom}
 use Rattle.core_disk.specs.Opened.{Opened, short_of, entry_after}
 use Rattle.core_disk.specs.Following.{follows}
 use Rattle.core_disk.specs.InHand.{InHand, opened_of, Agrees, NextRoots, HavePlaces}
@@ -42,13 +45,14 @@ abbrev pub TakesIn : Entry → Opened → Opened → Result (Unit {0}) CoreFault
 TakesIn e old new (Ok _) = IsFit e old × Agrees new (entry_after old e)
 TakesIn e old new (Err fault) = new ≡ old
 
--- why a change isn't taken in: want of memory, or of room behind the entries; the disk failed; or its entry isn't fit
-abbrev pub IsCommitFault : Entry → Opened → DiskView → DiskView → CoreFault → Type 0
-IsCommitFault e o old new Memory = ⊤
-IsCommitFault e o old new (Limit what max) = (what ≡ EntriesBytes) × (max ≡ MAX_ENTRIES_BYTES)
-IsCommitFault e o old new StoreFault = Rose old.faults new.faults
-IsCommitFault e o old new (BadStore area at) = IsFit e o → ⊥
-IsCommitFault e o old new other = ⊥
+-- why a change isn't taken in: want of memory, or of room behind so many bytes of entries; the disk failed; or its entry isn't fit
+abbrev pub IsCommitFault : ℕ → Entry → Opened → DiskView → DiskView → CoreFault → Type 0
+IsCommitFault used e o old new Memory = ⊤
+IsCommitFault used e o old new (Limit what max) = (what ≡ EntriesBytes) × (max ≡ MAX_ENTRIES_BYTES)
+    × (length (entry_spelling e) ≤ MAX_ENTRY_BYTES) × FindsNoRoom used (length (entry_spelling e))
+IsCommitFault used e o old new StoreFault = Rose old.faults new.faults
+IsCommitFault used e o old new (BadStore area at) = IsFit e o → ⊥
+IsCommitFault used e o old new other = ⊥
 
 -- what a change tells once it was written, or its fault; a fault of the disk breaks the core, at the disk's count of faults then
 abbrev pub Tells : (Option Commit → Receipt) → Commit → ℕ → Option ℕ → Result (Unit {0}) CoreFault → Option ℕ → Result Receipt CoreFault → Type 0

@@ -1,16 +1,19 @@
 -- A core over a disk: its parts, what is seen of it, and what a change does to a disk that a crash can't take.
-use Rattle.std.specs.Prelude.{◌≡◌, ◌≢◌, ◌⊎◌, ℕ, Bool, true, ◌+◌, ◌≤◌, ◌&&◌, List, [], ◌∷◌, Option, Some, None, Result, Ok, Err, IsTrue}
+use Rattle.std.specs.Prelude.{◌≡◌, ◌≢◌, ◌⊎◌, ℕ, Bool, true, ◌+◌, ◌≤◌, ◌&&◌, List, [], ◌∷◌, length, Option, Some, None, Result, Ok, Err, IsTrue}
 use Rattle.outside_traits.specs.Faults.{Rose}
 use Rattle.disk_trait.specs.declared.disk.Area.TheVariants.{Oplog}
 use Rattle.disk_trait.specs.Disk.{DiskView, Elapses, IsImage}
 use Rattle.disk_trait.specs.Runs.{LeavesOnly}
 use Rattle.commit_book.specs.declared.commit.Commit.{Commit}
+use Rattle.merkle_nodes.specs.declared.limit.What.TheVariants.{Oplog as EntriesBytes}
 use Rattle.oplog_form.specs.declared.entry.Entry.{Entry}
+use Rattle.oplog_form.specs.declared.entry.TheConstants.{MAX_ENTRY_BYTES}
 use Rattle.oplog_form.specs.Entries.{entry_spelling}
+use Rattle.oplog_file.specs.declared.layout.TheConstants.{MAX_ENTRIES_BYTES}
 use Rattle.oplog_file.specs.Files.{File, IsFile, next_frame, NoChance}
 use Rattle.oplog_file.specs.Writers.{Place}
 use Rattle.node_set.specs.declared.fault.CoreFault.{CoreFault}
-use Rattle.node_set.specs.declared.fault.CoreFault.TheVariants.{Broken, StoreFault}
+use Rattle.node_set.specs.declared.fault.CoreFault.TheVariants.{Broken, StoreFault, Limit}
 use Rattle.node_set.specs.declared.fault.Receipt.{Receipt}
 use Rattle.node_set.specs.Contents.{Content}
 use Rattle.core_state.specs.Events.{Event}
@@ -18,6 +21,7 @@ use Rattle.core_state.specs.Events.Reply.{Done}
 use Rattle.core_state.specs.States.{CoreState}
 use Rattle.core_state.specs.Next.{Next}
 use Rattle.core_disk.specs.InHand.{InHand}
+use Rattle.core_disk.specs.Bringing.{FindsNoRoom}
 use Rattle.core_disk.specs.Areas.{Areas}
 use Rattle.core_disk.specs.Standing.{StandsFor}
 use Rattle.core_disk.specs.Written.{IsEntryOf}
@@ -62,6 +66,7 @@ pub record IsNextBy (accepts : List ℕ → List ℕ → Bool) (m : Content) (ev
   pub receipt : Receipt
   pub commit : Commit
   pub next : Next accepts m event after (Done (Ok receipt))
+  pub commits : receipt.commit ≡ Some commit
   pub is_entry : IsEntryOf m commit after e
 
 -- At each moment of a change a crash leaves areas that stand for the content before it or for one that follows its event, but for what
@@ -83,12 +88,27 @@ pub record IsSafeChange (accepts : List ℕ → List ℕ → Bool) (id : List �
   pub any_moment : LeavesOnly old new (λ areas. StandsFor accepts id areas m) ⊎ IsBetween accepts id m event old new
   pub firm : (answer ≢ Err StoreFault) → IsFirmFor accepts id new place now
 
+-- what follows an event has an entry, of no more bytes than one may have, that finds no room behind so many bytes of entries
+pub record LacksRoom (accepts : List ℕ → List ℕ → Bool) (m : Content) (event : Event) (used : ℕ) : Type 0 where
+  pub after : Content
+  pub entry : Entry
+  pub follows : IsNextBy accepts m event after entry
+  pub few : length (entry_spelling entry) ≤ MAX_ENTRY_BYTES
+  pub no_room : FindsNoRoom used (length (entry_spelling entry))
+
+-- the change file would pass the most bytes of its entries, and the disk wasn't called
+pub record IsFull {D A : Type 0} (accepts : A → List ℕ → List ℕ → Bool) (m : Content) (event : Event) (old new : Cored D A) (max : ℕ) : Type 0 where
+  pub most : max ≡ MAX_ENTRIES_BYTES
+  pub untouched : new.store.disk ≡ old.store.disk
+  pub room : LacksRoom (accepts old.auth) m event old.place.used
+
 -- the most calls of its disk that a change makes
 abbrev pub most_calls : ℕ
 most_calls = 4
 
 -- What a change does to the disk of a core: at most so many calls; a fault of the disk breaks the core at the count of faults then, and a
--- broken core answers so and makes no call; and a crash can't take what the disk stands for.
+-- broken core answers so and makes no call; of one that stands it is refused at the limit of the change file only where its entry finds no
+-- room; and a crash can't take what the disk stands for.
 pub record ChangesDisk {D A : Type 0} (disk : D → DiskView) (accepts : A → List ℕ → List ℕ → Bool) (event : Event) (old new : Cored D A) (answer : Result Receipt CoreFault) : Type 0 where
   pub auth : new.auth ≡ old.auth
   pub honest : (disk new.store.disk).honest ≡ (disk old.store.disk).honest
@@ -97,6 +117,8 @@ pub record ChangesDisk {D A : Type 0} (disk : D → DiskView) (accepts : A → L
   pub rose : answer ≡ Err StoreFault → Rose (disk old.store.disk).faults (disk new.store.disk).faults
   pub broke : answer ≡ Err StoreFault → new.broken ≡ Some (disk new.store.disk).faults
   pub breaks : answer ≢ Err StoreFault → new.broken ≡ old.broken
+  pub full : (max : ℕ) → IsTrue (state_of disk accepts old).stands → answer ≡ Err (Limit EntriesBytes max)
+      → IsFull accepts (shown disk old) event old new max
   pub safe : (id : List ℕ) → IsTrue (disk old.store.disk).honest → old.broken ≡ None
       → IsFirmFor (accepts old.auth) id (disk old.store.disk) old.place (shown disk old)
       → IsSafeChange (accepts old.auth) id (shown disk old) event (disk old.store.disk) (disk new.store.disk) new.place (shown disk new) answer

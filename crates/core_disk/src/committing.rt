@@ -50,7 +50,7 @@ pub(crate) fn commit_change<D: Disk>(
     ensures laid { IsTrue (D.disk store.old.disk).honest → OnOk result ((D.disk store.new.disk).reads BlocksArea
         ≡ laid (part_of part.entry) ((D.disk store.old.disk).reads BlocksArea)) }
     ensures err { OnErr result (Stands file.old file.new) }
-    ensures why { IfErr result (IsCommitFault entry.now (opened_of store.old.hand)
+    ensures why { IfErr result (IsCommitFault file.old.used entry.now (opened_of store.old.hand)
         (D.disk store.old.disk) (D.disk store.new.disk)) }
     ensures quiet { IfErr result (λ fault. (fault ≡ StoreFault) ⊎ (store.new.disk ≡ store.old.disk)) }
     ensures calls { Calls 4 (D.disk store.old.disk) (D.disk store.new.disk) result }

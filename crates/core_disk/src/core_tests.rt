@@ -8,7 +8,7 @@ use crate::tests::TWO;
 use bit_field::PAGE_BYTES;
 use disk_trait::{Area, Disk, MemDisk, Room};
 use flat_tree::MAX_BLOCK_BYTES;
-use node_set::CoreFault;
+use node_set::{CoreFault, View};
 use outside_traits::{Blob, Signer, Verifier};
 use std::alloc::Global;
 use std::test::Fail;
@@ -23,6 +23,8 @@ const FIRST_READ: u64 = 26;
 
 // The core's id.
 const ID: [u8; 32] = [7; 32];
+
+type Log = DiskCore<MemDisk, Anyone>;
 
 // Accepts all heads.
 #[derive(Drop)]
@@ -55,7 +57,7 @@ fn two_blocks(alloc: Global) -> Result<MemDisk, Fail> {
     Err(Fail::new("no entry"))
 }
 
-fn opened(alloc: Global, disk: MemDisk) -> Result<DiskCore<MemDisk, Anyone>, Fail> {
+fn opened(alloc: Global, disk: MemDisk) -> Result<Log, Fail> {
     match DiskCore::open_store(alloc, disk, &ID, Anyone) {
         Ok(core) => Ok(core),
         Err(_) => Err(Fail::new("not opened")),
@@ -63,12 +65,7 @@ fn opened(alloc: Global, disk: MemDisk) -> Result<DiskCore<MemDisk, Anyone>, Fai
 }
 
 // The one byte of a block, with the number of its siblings.
-fn byte_of(
-    core: &mut DiskCore<MemDisk, Anyone>,
-    alloc: Global,
-    index: u64,
-    room: usize,
-) -> Result<(u8, usize), Fail>
+fn byte_of(core: &mut Log, alloc: Global, index: u64, room: usize) -> Result<(u8, usize), Fail>
     requires room { MAX_BLOCK_BYTES ≤ room }
 {
     let mut place = Blob::zeros(alloc, room)?;
@@ -79,11 +76,7 @@ fn byte_of(
 }
 
 // Whether the first of two reads of a block fails by the disk, and the second gives it.
-fn fails_once(
-    core: &mut DiskCore<MemDisk, Anyone>,
-    alloc: Global,
-    room: usize,
-) -> Result<(bool, bool), Fail>
+fn fails_once(core: &mut Log, alloc: Global, room: usize) -> Result<(bool, bool), Fail>
     requires room { MAX_BLOCK_BYTES ≤ room }
 {
     let mut place = Blob::zeros(alloc, room)?;
@@ -105,46 +98,87 @@ fn a_failed_read_leaves_the_core(rt: HostRuntime) -> Result<(), Fail> {
     Ok(())
 }
 
+// How many blocks and bytes a core has, and how many blocks it holds.
+fn told(core: &Log) -> (u64, u64, u64) {
+    let info = core.info();
+    (info.length, info.bytes, info.held)
+}
+
+// Which of the first eight blocks are held, the first as the lowest bit.
+fn held_of(core: &mut Log) -> Result<u8, CoreFault> {
+    let mut page = [9; PAGE_BYTES];
+    match core.bits(0, &mut page) {
+        Ok(()) => Ok(page[0]),
+        Err(fault) => Err(fault),
+    }
+}
+
 #[test]
 fn a_core_is_read(rt: HostRuntime) -> Result<(), Fail> {
     let alloc = rt.alloc();
     let mut core = opened(alloc, two_blocks(alloc)?)?;
-    assert_eq!(rt;
-        (core.info().length, core.info().bytes, core.info().held),
-        (2, 2, 2)
-    );
+    assert_eq!(rt; told(&core), (2, 2, 2));
     assert_eq!(rt;
         byte_of(&mut core, alloc, 1, MAX_BLOCK_BYTES as usize)?,
         (b'b', 1)
     );
-    assert_eq!(rt; core.need(1), Ok(0));
-    assert_eq!(rt; core.need(2), Err(CoreFault::OutOfRange { end: 2 }));
-    let mut page = [9; PAGE_BYTES];
-    assert_eq!(rt; core.bits(0, &mut page), Ok(()));
-    assert_eq!(rt; (page[0], page[1]), (3, 0));
-    assert_eq!(rt; core.faults(), 0);
+    let past = CoreFault::OutOfRange { end: 2 };
+    assert_eq!(rt; (core.need(1), core.need(2)), (Ok(0), Err(past)));
+    assert_eq!(rt; (held_of(&mut core), core.faults()), (Ok(3), 0));
     Ok(())
+}
+
+// How many roots a view of a core has, the size of its node 2, and how many bytes its block 1 has.
+fn viewed(core: &mut Log, alloc: Global, room: usize) -> Result<(usize, u64, usize), Fail>
+    requires room { MAX_BLOCK_BYTES ≤ room }
+{
+    let mut place = Blob::zeros(alloc, room)?;
+    let roots = core.roots().len();
+    let leaf = core.node(2);
+    if !View::held(core, 1) {
+        return Err(Fail::new("not held"));
+    }
+    match (leaf, core.block(1, place.bytes_mut())) {
+        (Ok(Some(leaf)), Ok(len)) => Ok((roots, leaf.size, len)),
+        _ => Err(Fail::new("no node or block")),
+    }
+}
+
+#[test]
+fn a_core_is_a_view(rt: HostRuntime) -> Result<(), Fail> {
+    let alloc = rt.alloc();
+    let mut core = opened(alloc, two_blocks(alloc)?)?;
+    assert_eq!(rt;
+        viewed(&mut core, alloc, MAX_BLOCK_BYTES as usize)?,
+        (1, 1, 1)
+    );
+    Ok(())
+}
+
+// A new core.
+fn made(alloc: Global) -> Result<Log, Fail> {
+    match DiskCore::make_new(alloc, MemDisk::new(alloc, &ROOM)?, &ID, Anyone) {
+        Ok(core) => Ok(core),
+        Err(_) => Err(Fail::new("not made")),
+    }
+}
+
+// A disk that isn't opened under another id, and why not.
+fn refused(alloc: Global, disk: MemDisk) -> Result<(CoreFault, MemDisk), Fail> {
+    match DiskCore::open_store(alloc, disk, &[8; 32], Anyone) {
+        Ok(_) => Err(Fail::new("opened")),
+        Err(refused) => Ok(refused),
+    }
 }
 
 #[test]
 fn a_disk_is_handed_in_and_out(rt: HostRuntime) -> Result<(), Fail> {
     let alloc = rt.alloc();
-    let core = match DiskCore::make_new(alloc, two_blocks(alloc)?, &ID, Anyone) {
-        Ok(core) => core,
-        Err(_) => return Err(Fail::new("not made")),
-    };
-    assert_eq!(rt; core.info().length, 0);
+    let (fault, disk) = refused(alloc, made(alloc)?.into_disk())?;
     let bad = CoreFault::BadStore {
         area: Area::Oplog,
         at: 33,
     };
-    let disk = match DiskCore::open_store(alloc, core.into_disk(), &[8; 32], Anyone) {
-        Ok(_) => return Err(Fail::new("opened")),
-        Err((fault, disk)) => {
-            assert_eq!(rt; fault, bad);
-            disk
-        }
-    };
-    assert_eq!(rt; opened(alloc, disk)?.info().length, 0);
+    assert_eq!(rt; (fault, told(&opened(alloc, disk)?)), (bad, (0, 0, 0)));
     Ok(())
 }

@@ -43,20 +43,26 @@ impl Verifier for Judge {
     }
 }
 
-// What is in memory once the disk is opened.
-fn opened(
-    alloc: Global,
-    disk: &mut MemDisk,
-    id: u8,
-    accepts: bool,
-) -> Result<DiskState, CoreFault> {
-    match open_parts(alloc, disk, &[id; 32], &Judge { accepts }) {
+// What is in memory once the disk is opened, with all heads accepted.
+fn opened(alloc: Global, disk: &mut MemDisk) -> Result<DiskState, Fail> {
+    match open_parts(alloc, disk, &ID, &Judge { accepts: true }) {
         Ok((_, state)) => Ok(state),
-        Err(fault) => Err(fault),
+        Err(_) => Err(Fail::new("not opened")),
     }
 }
 
-// Why it isn't opened.
+// How many blocks and roots there are, which of the first two blocks are held, and whether there are the nodes 0 to 2.
+fn told(state: &DiskState) -> (u64, usize, [bool; 2], [bool; 3]) {
+    let nodes = [
+        state.nodes.get(0).is_some(),
+        state.nodes.get(1).is_some(),
+        state.nodes.get(2).is_some(),
+    ];
+    let held = [state.holds(0), state.holds(1)];
+    (state.head.length, state.roots.len(), held, nodes)
+}
+
+// Why it isn't opened under an id of such bytes.
 fn fault_of(alloc: Global, disk: &mut MemDisk, id: u8, accepts: bool) -> Option<CoreFault> {
     match open_parts(alloc, disk, &[id; 32], &Judge { accepts }) {
         Ok(_) => None,
@@ -64,39 +70,44 @@ fn fault_of(alloc: Global, disk: &mut MemDisk, id: u8, accepts: bool) -> Option<
     }
 }
 
+// A new store.
+fn made(alloc: Global) -> Result<(OplogFile, MemDisk), Fail> {
+    let mut disk = MemDisk::new(alloc, &ROOM)?;
+    match make_parts(alloc, &mut disk, &ID) {
+        Ok((file, _)) => Ok((file, disk)),
+        Err(_) => Err(Fail::new("not made")),
+    }
+}
+
 #[test]
 fn a_new_store_is_opened_under_its_id(rt: HostRuntime) -> Result<(), Fail> {
     let alloc = rt.alloc();
-    let mut disk = MemDisk::new(alloc, &ROOM)?;
-    let Ok((mut file, _)) = make_parts(alloc, &mut disk, &ID) else {
-        return Err(Fail::new("not made"));
-    };
+    let (_, mut disk) = made(alloc)?;
     let bad = CoreFault::BadStore {
         area: Area::Oplog,
         at: 33,
     };
     assert_eq!(rt; fault_of(alloc, &mut disk, 8, true), Some(bad));
     assert_eq!(rt; fault_of(alloc, &mut disk, 7, false), None);
-    // two blocks come in, under a head that is to be signed
-    assert!(rt; add(&mut file, &mut disk, &TWO));
+    Ok(())
+}
+
+#[test]
+fn blocks_come_under_a_head_that_is_to_be_signed(rt: HostRuntime) -> Result<(), Fail> {
+    let alloc = rt.alloc();
+    let (mut file, mut disk) = made(alloc)?;
+    if !file.fits(171) || file.append(&mut disk, &TWO).is_err() {
+        return Err(Fail::new("no entry"));
+    }
     assert_eq!(rt;
         fault_of(alloc, &mut disk, 7, false),
         Some(CoreFault::BadSignature)
     );
-    let Ok(state) = opened(alloc, &mut disk, 7, true) else {
-        return Err(Fail::new("not opened"));
-    };
-    assert_eq!(rt; (state.head.length, state.roots.len()), (2, 1));
-    assert_eq!(rt; (state.holds(0), state.holds(1)), (true, true));
     assert_eq!(rt;
-        (state.nodes.get(0).is_some(), state.nodes.get(2).is_some()),
-        (true, true)
+        told(&opened(alloc, &mut disk)?),
+        (2, 1, [true, true], [true, true, true])
     );
     Ok(())
-}
-
-fn add(file: &mut OplogFile, disk: &mut MemDisk, entry: &[u8; 171]) -> bool {
-    file.fits(171) && file.append(disk, entry).is_ok()
 }
 
 // The header of two blocks, with this hash of the copy.
@@ -134,17 +145,22 @@ fn laid(alloc: Global, bits: &[u8; 32], size: u64) -> Result<MemDisk, Fail> {
 #[test]
 fn nodes_without_a_record_are_read_of_the_tree_area(rt: HostRuntime) -> Result<(), Fail> {
     let alloc = rt.alloc();
-    let Ok(state) = opened(alloc, &mut laid(alloc, &FIRST_HELD, 5)?, 7, true) else {
-        return Err(Fail::new("not opened"));
-    };
+    let state = opened(alloc, &mut laid(alloc, &FIRST_HELD, 5)?)?;
     let leaf = Node {
         index: 2,
         size: 5,
         hash: [0; 32],
     };
-    assert_eq!(rt; state.nodes.get(2), Some(leaf));
-    assert_eq!(rt; (state.holds(0), state.holds(1)), (true, false));
-    assert_eq!(rt; state.nodes.get(1).is_some(), true);
+    assert_eq!(rt;
+        (told(&state), state.nodes.get(2)),
+        ((2, 1, [true, false], [true, true, true]), Some(leaf))
+    );
+    Ok(())
+}
+
+#[test]
+fn a_node_larger_than_a_core_is_bad(rt: HostRuntime) -> Result<(), Fail> {
+    let alloc = rt.alloc();
     let large = CoreFault::BadStore {
         area: Area::Tree,
         at: 80,

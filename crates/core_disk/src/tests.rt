@@ -43,6 +43,17 @@ pub(crate) fn new_header() -> Result<Header, Fail>
     }
 }
 
+// The head's fork and length, the roots, and which of the first three blocks are held.
+fn told(state: &DiskState) -> (u64, u64, &[Node], [bool; 3]) {
+    let held = [state.holds(0), state.holds(1), state.holds(2)];
+    (
+        state.head.fork,
+        state.head.length,
+        state.roots.as_slice(),
+        held,
+    )
+}
+
 #[test]
 fn entries_are_applied_where_they_follow(rt: HostRuntime) -> Result<(), Fail> {
     let alloc = rt.alloc();
@@ -51,25 +62,21 @@ fn entries_are_applied_where_they_follow(rt: HostRuntime) -> Result<(), Fail> {
     let Ok(two) = read_entry(&TWO) else {
         return Err(Fail::new("no entry"));
     };
-    assert_eq!(rt; state.apply(alloc, &two), Ok(()));
-    assert_eq!(rt; (state.head.fork, state.head.length), (0, 2));
-    assert_eq!(rt; state.roots.len(), 1);
+    let root = Node {
+        index: 1,
+        size: 2,
+        hash: PARENT,
+    };
+    let first = state.apply(alloc, &two);
     assert_eq!(rt;
-        state.roots.as_slice(),
-        [Node {
-            index: 1,
-            size: 2,
-            hash: PARENT
-        }]
-        .as_slice()
-    );
-    assert_eq!(rt; state.nodes.get(2).is_some(), true);
-    assert_eq!(rt;
-        (state.holds(0), state.holds(1), state.holds(2)),
-        (true, true, false)
+        (first, told(&state)),
+        (Ok(()), (0, 2, [root].as_slice(), [true, true, false]))
     );
     // its head has another length than two blocks more make
-    assert_eq!(rt; state.apply(alloc, &two), Err(ApplyFault::DoesntFollow));
-    assert_eq!(rt; state.head.length, 2);
+    let second = state.apply(alloc, &two);
+    assert_eq!(rt;
+        (second, state.head.length, state.nodes.get(2).is_some()),
+        (Err(ApplyFault::DoesntFollow), 2, true)
+    );
     Ok(())
 }

@@ -51,6 +51,7 @@ pub(crate) fn write_change<D: Disk>(
 
     ensures limit { IsErrOf result (Limit EntriesBytes MAX_ENTRIES_BYTES)
         ↔ FindsNoRoom file.old.used (length (entry_spelling entry.now)) }
+    ensures few { length (entry_spelling entry.now) ≤ MAX_ENTRY_BYTES }
     ensures no_call { FindsNoRoom file.old.used (length (entry_spelling entry.now))
         → disk.new ≡ disk.old }
     ensures err { OnErr result (Stands file.old file.new) }

@@ -112,18 +112,15 @@ fn blocks_are_fetched_one_by_one(rt: HostRuntime) -> Result<(), Fail> {
     let mut to = upgraded(alloc, &mut from)?;
     assert_eq!(rt; (to.info().length, to.info().held), (8, 0));
     for (index, need, nodes, reserved) in [(5, 3, 3, false), (4, 0, 0, true), (0, 2, 3, true)] {
-        assert_eq!(rt; to.need(index), Ok(need), "block {index}");
+        let before = to.need(index);
+        let first = hand_on(&mut from, &mut to, alloc, &want(index, nodes), reserved)?;
+        // then it is held, and nothing changes
+        let after = to.need(index);
+        let again = hand_on(&mut from, &mut to, alloc, &want(index, nodes), reserved)?;
         assert_eq!(rt;
-            hand_on(&mut from, &mut to, alloc, &want(index, nodes), reserved)?,
-            Ok(Some(Commit::Fetch { index })),
+            (before, first, after, again),
+            (Ok(need), Ok(Some(Commit::Fetch { index })), Ok(0), Ok(None)),
             "block {index}"
-        );
-        assert_eq!(rt; to.need(index), Ok(0), "block {index}");
-        // it is held, and nothing changes
-        assert_eq!(rt;
-            hand_on(&mut from, &mut to, alloc, &want(index, nodes), reserved)?,
-            Ok(None),
-            "block {index} again"
         );
     }
     assert_eq!(rt; to.info().held, 3);
@@ -176,9 +173,13 @@ fn requests_without_a_reply(rt: HostRuntime) -> Result<(), Fail> {
     let alloc = rt.alloc();
     let mut from = full(alloc)?;
     let mut to = upgraded(alloc, &mut from)?;
-    assert!(rt; is_made(&mut from, alloc, &want(5, 3))?);
-    assert!(rt; !is_made(&mut from, alloc, &want(8, 0))?);
-    assert!(rt; !is_made(&mut from, alloc, &want(5, 4))?);
+    for (index, nodes, made) in [(5, 3, true), (8, 0, false), (5, 4, false)] {
+        assert_eq!(rt;
+            is_made(&mut from, alloc, &want(index, nodes))?,
+            made,
+            "block {index}"
+        );
+    }
     assert!(rt; !is_made(&mut to, alloc, &want(5, 0))?);
     Ok(())
 }

@@ -86,40 +86,43 @@ fn byte_of<C: Core>(
     }
 }
 
+// Of the log of all seven.
+const ALL: Info = Info {
+    fork: 0,
+    length: 7,
+    bytes: 7,
+    held: 7,
+    root: SEVEN,
+};
+
 #[test]
 fn the_head_in_short(rt: HostRuntime) -> Result<(), Fail> {
     let alloc = rt.alloc();
     let mut core = empty(alloc);
-    let mut info = Info {
-        fork: 0,
+    let none = Info {
         length: 0,
         bytes: 0,
         held: 0,
         root: NONE,
+        ..ALL
     };
-    assert_eq!(rt; core.info(), info);
+    assert_eq!(rt; (core.info(), core.faults()), (none, 0));
     let receipt = Receipt {
         fork: 0,
         length: 7,
         root: SEVEN,
         commit: Some(Commit::Append { count: 7 }),
     };
-    let blocks = blocks_of(alloc, b"abcdefg")?;
-    assert_eq!(rt; core.append(alloc, &blocks), Ok(receipt));
-    info = Info {
-        length: 7,
-        bytes: 7,
-        held: 7,
-        root: SEVEN,
-        ..info
-    };
-    assert_eq!(rt; core.info(), info);
+    let answer = core.append(alloc, &blocks_of(alloc, b"abcdefg")?);
+    assert_eq!(rt; (answer, core.info()), (Ok(receipt), ALL));
+    let commit = commit_of(core.clear(alloc, 2, 7));
     assert_eq!(rt;
-        commit_of(core.clear(alloc, 2, 7)),
-        Ok(Some(Commit::Clear { from: 2, to: 7 }))
+        (commit, core.info()),
+        (
+            Ok(Some(Commit::Clear { from: 2, to: 7 })),
+            Info { held: 2, ..ALL }
+        )
     );
-    assert_eq!(rt; core.info(), Info { held: 2, ..info });
-    assert_eq!(rt; core.faults(), 0);
     Ok(())
 }
 
@@ -135,61 +138,75 @@ fn blocks_are_given_up(rt: HostRuntime) -> Result<(), Fail> {
         (0, 8, Err(CoreFault::OutOfRange { end }), 0b1111111),
     ] {
         let mut core = seven(alloc)?;
-        assert_eq!(rt;
-            commit_of(core.clear(alloc, from, to)),
-            commit,
-            "{from}..{to}"
-        );
-        assert_eq!(rt; held_of(&mut core), Ok(held), "{from}..{to}");
+        let first = commit_of(core.clear(alloc, from, to));
         // none of them is held any more
         let again = if commit.is_ok() { Ok(None) } else { commit };
         assert_eq!(rt;
-            commit_of(core.clear(alloc, from, to)),
-            again,
-            "{from}..{to} again"
+            (
+                first,
+                held_of(&mut core),
+                commit_of(core.clear(alloc, from, to))
+            ),
+            (commit, Ok(held), again),
+            "{from}..{to}"
         );
     }
     Ok(())
 }
 
+// Seven blocks, of which two are held.
+fn seven_cleared(alloc: Global) -> Result<Log, Fail> {
+    let mut core = seven(alloc)?;
+    match core.clear(alloc, 2, 7) {
+        Ok(_) => Ok(core),
+        Err(_) => Err(Fail::new("not cleared")),
+    }
+}
+
+// Truncations in turn, and what is then held.
 #[test]
 fn the_log_is_cut(rt: HostRuntime) -> Result<(), Fail> {
     let alloc = rt.alloc();
     let mut core = seven(alloc)?;
-    assert_eq!(rt;
-        core.truncate(alloc, 9, 2),
-        Err(CoreFault::OutOfRange { end: 7 })
-    );
-    let cut = Ok(Some(Commit::Truncate { to: 5, fork: 1 }));
-    assert_eq!(rt; commit_of(core.truncate(alloc, 5, 1)), cut);
-    assert_eq!(rt; held_of(&mut core), Ok(0b0011111));
-    assert_eq!(rt;
-        core.truncate(alloc, 5, 1),
-        Err(CoreFault::OldFork { have: 1 })
-    );
+    let cut = Commit::Truncate { to: 5, fork: 1 };
+    for (to, fork, commit, held) in [
+        (9, 2, Err(CoreFault::OutOfRange { end: 7 }), 0b1111111),
+        (5, 1, Ok(Some(cut)), 0b0011111),
+        (5, 1, Err(CoreFault::OldFork { have: 1 }), 0b0011111),
+    ] {
+        assert_eq!(rt;
+            (
+                commit_of(core.truncate(alloc, to, fork)),
+                held_of(&mut core)
+            ),
+            (commit, Ok(held)),
+            "{to}"
+        );
+    }
+    Ok(())
+}
 
-    let mut core = seven(alloc)?;
-    let clear = Ok(Some(Commit::Clear { from: 2, to: 7 }));
-    assert_eq!(rt; commit_of(core.clear(alloc, 2, 7)), clear);
-    assert_eq!(rt;
-        core.truncate(alloc, 5, 1),
-        Err(CoreFault::NoNode { index: 8 })
-    );
+// Only where the roots are stored.
+#[test]
+fn a_cleared_log_is_cut(rt: HostRuntime) -> Result<(), Fail> {
+    let alloc = rt.alloc();
+    let mut core = seven_cleared(alloc)?;
     let receipt = Receipt {
         fork: 1,
         length: 4,
         root: FOUR,
         commit: Some(Commit::Truncate { to: 4, fork: 1 }),
     };
-    assert_eq!(rt; core.truncate(alloc, 4, 1), Ok(receipt));
-    assert_eq!(rt; held_of(&mut core), Ok(0b0000011));
-    // as many places as before, with other blocks
-    let append = Ok(Some(Commit::Append { count: 2 }));
     assert_eq!(rt;
-        commit_of(core.append(alloc, &blocks_of(alloc, b"xy")?)),
-        append
+        (core.truncate(alloc, 5, 1), core.truncate(alloc, 4, 1)),
+        (Err(CoreFault::NoNode { index: 8 }), Ok(receipt))
     );
-    assert_eq!(rt; held_of(&mut core), Ok(0b0110011));
+    // as many places as before, with other blocks
+    let commit = commit_of(core.append(alloc, &blocks_of(alloc, b"xy")?));
+    assert_eq!(rt;
+        (commit, held_of(&mut core)),
+        (Ok(Some(Commit::Append { count: 2 })), Ok(0b0110011))
+    );
     Ok(())
 }
 
@@ -218,6 +235,7 @@ fn blocks_and_what_they_need(rt: HostRuntime) -> Result<(), Fail> {
     let alloc = rt.alloc();
     let room = MAX_BLOCK_BYTES as usize;
     let mut core = seven(alloc)?;
+    let mut less = seven_cleared(alloc)?;
     for (index, byte, siblings, levels) in [
         (0, b'a', 2, 0),
         (1, b'b', 2, 0),
@@ -228,15 +246,14 @@ fn blocks_and_what_they_need(rt: HostRuntime) -> Result<(), Fail> {
         (6, b'g', 0, 0),
     ] {
         assert_eq!(rt;
-            byte_of(&mut core, alloc, index, room)?,
-            (byte, siblings),
+            (
+                byte_of(&mut core, alloc, index, room)?,
+                core.need(index),
+                less.need(index)
+            ),
+            ((byte, siblings), Ok(0), Ok(levels)),
             "block {index}"
         );
-        assert_eq!(rt; core.need(index), Ok(0), "block {index}");
-        let mut less = seven(alloc)?;
-        let clear = Ok(Some(Commit::Clear { from: 2, to: 7 }));
-        assert_eq!(rt; commit_of(less.clear(alloc, 2, 7)), clear);
-        assert_eq!(rt; less.need(index), Ok(levels), "block {index}");
     }
     assert_eq!(rt; core.need(7), Err(CoreFault::OutOfRange { end: 7 }));
     Ok(())
@@ -262,9 +279,7 @@ fn refusal_of<C: Core>(
 fn blocks_that_are_not_there(rt: HostRuntime) -> Result<(), Fail> {
     let alloc = rt.alloc();
     let room = MAX_BLOCK_BYTES as usize;
-    let mut core = seven(alloc)?;
-    let clear = Ok(Some(Commit::Clear { from: 2, to: 7 }));
-    assert_eq!(rt; commit_of(core.clear(alloc, 2, 7)), clear);
+    let mut core = seven_cleared(alloc)?;
     for (index, fault) in [
         (2, CoreFault::Unavailable { index: 2 }),
         (7, CoreFault::OutOfRange { end: 7 }),
@@ -282,12 +297,14 @@ fn blocks_that_are_not_there(rt: HostRuntime) -> Result<(), Fail> {
 #[test]
 fn the_view_of_a_log(rt: HostRuntime) -> Result<(), Fail> {
     let mut core = seven(rt.alloc())?;
-    assert_eq!(rt; (core.head().length, core.roots().len()), (7, 3));
+    let Ok(Some(node)) = core.node(9) else {
+        return Err(Fail::new("no node"));
+    };
+    assert_eq!(rt;
+        (core.head().length, core.roots().len(), node.size),
+        (7, 3, 2)
+    );
     assert!(rt; View::held(&core, 6));
-    match core.node(9) {
-        Ok(Some(node)) => assert_eq!(rt; (node.index, node.size), (9, 2)),
-        _ => return Err(Fail::new("no node")),
-    }
     Ok(())
 }
 
@@ -299,12 +316,9 @@ fn content_stays_without_memory(rt: HostRuntime) -> Result<(), Fail> {
     let mut core = empty(alloc);
     let head = core.info();
     if core.append(alloc, &blocks) == Err(CoreFault::Memory) {
-        assert_eq!(rt; core.info(), head);
-        assert_eq!(rt; held_of(&mut core), Ok(0));
-        let append = Ok(Some(Commit::Append { count: 7 }));
-        assert_eq!(rt; commit_of(core.append(alloc, &blocks)), append);
+        assert_eq!(rt; (core.info(), held_of(&mut core)), (head, Ok(0)));
+        assert!(rt; core.append(alloc, &blocks).is_ok());
     }
-    assert_eq!(rt; core.info().root, SEVEN);
-    assert_eq!(rt; held_of(&mut core), Ok(0b1111111));
+    assert_eq!(rt; (core.info(), held_of(&mut core)), (ALL, Ok(0b1111111)));
     Ok(())
 }

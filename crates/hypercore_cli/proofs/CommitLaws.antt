@@ -1,29 +1,30 @@
 -- Batches that are committed to a core over a disk, one after the other.
-use Rattle.std.proofs.Common.{◌≡◌, ◌≢◌, ◌⊎◌, inl, inr, ℕ, ◌+◌, Bool, true, false, List, length, [], ◌∷◌, ◌++◌, Option, None, Some, Result, Ok, Err, refl, sym, ap, ◌∙◌, subst, arith, append_assoc, append-nil}
-use Rattle.std.specs.Prelude.{IsTrue, ⊤, OnOk, IfErr, nat_lt, nat_le}
+use Rattle.std.proofs.Common.{◌≡◌, ◌≢◌, ◌⊎◌, inl, inr, ℕ, ◌+◌, Bool, true, List, length, [], ◌∷◌, ◌++◌, None, Some, Result, Ok, Err, refl, sym, ap, ◌∙◌, subst, arith, append_assoc, append-nil}
+use Rattle.std.specs.Prelude.{IsTrue, ⊤, OnOk, IfErr}
 use Rattle.std.specs.List.{sum_by}
 use Rattle.std.proofs.lemmas.List.Sums.{sum_by-cons}
 use Rattle.disk_trait.specs.Disk.{DiskView, MayStay}
-use Rattle.disk_trait.specs.declared.disk.Area.TheVariants.{Blocks as BlocksArea}
+use Rattle.disk_trait.specs.declared.disk.Area.TheVariants.{Oplog as OplogArea, Blocks as BlocksArea}
 use Rattle.disk_trait.specs.Runs.{LeavesOnly}
 use Rattle.node_set.specs.declared.fault.CoreFault.{CoreFault}
 use Rattle.node_set.specs.declared.fault.CoreFault.TheVariants.{Memory, Broken, StoreFault, BadStore, Damaged, Limit}
 use Rattle.node_set.specs.declared.fault.Receipt.{Receipt}
-use Rattle.node_set.specs.Contents.{Content, roots, bytes_under}
-use Rattle.node_set.specs.Refuses.{or_else, refuse_if}
-use Rattle.flat_tree.specs.declared.limits.TheConstants.{MAX_BLOCKS, MAX_BLOCK_BYTES, MAX_CORE_BYTES, MAX_BATCH_BLOCKS, MAX_BATCH_BYTES}
+use Rattle.node_set.specs.Contents.{Content}
+use Rattle.flat_tree.specs.declared.limits.TheConstants.{MAX_BATCH_BLOCKS, MAX_BATCH_BYTES}
 use Rattle.merkle_nodes.specs.declared.limit.What.{What}
-use Rattle.merkle_nodes.specs.declared.limit.What.TheVariants.{Block, Blocks, Bytes, Batch, BatchBytes, Oplog}
+use Rattle.merkle_nodes.specs.declared.limit.What.TheVariants.{Oplog as EntriesBytes}
+use Rattle.oplog_file.specs.Files.{IsFile}
 use Rattle.core_state.specs.Events.Event.{Append}
 use Rattle.core_state.specs.Events.Reply.{Done}
 use Rattle.core_state.specs.States.{CoreState}
 use Rattle.core_state.specs.Next.{FollowsAppend}
-use Rattle.core_state.specs.Refusals.{append_refusal, limit_at, limit_in}
+use Rattle.core_state.specs.Refusals.{append_refusal}
 use Rattle.core_state.specs.Calls.{Acts, Fails, IsChangeFault}
 use Rattle.core_disk.specs.Standing.{HasBlocks, StandsFor}
 use Rattle.core_disk.specs.Stored.{blocks_area}
 use Rattle.core_disk.specs.Firm.{IsFirmFor}
-use Rattle.core_disk.specs.Cored.{Cored, state_of, shown, disk_under, ChangesDisk, IsBetween}
+use Rattle.core_disk.specs.Cored.{Cored, state_of, shown, disk_under, ChangesDisk, IsBetween, LacksRoom}
+use Rattle.core_disk.proofs.ChangeRefusals.{IsLimit, refusal_is}
 use Rattle.core_disk.proofs.CoredLemmas.{told_stands}
 use Rattle.hypercore_cli.specs.Batches.{is_full_for, Grows}
 use Rattle.hypercore_cli.specs.Appends.{KeepsCore, IsFirm, HasGrown, BreaksIn, IsRefused, TellsWhy, Ends, Commits, closed_by, opened_by, TakesLine}
@@ -53,42 +54,6 @@ Grows-length accepts m (batch ∷ batches) after grows =
 
 -- ---- faults
 
--- a refusal of an append is a limit
-abbrev IsLimit : CoreFault → Type 0
-IsLimit (Limit what max) = ⊤
-IsLimit fault = ⊥
-
-abbrev AreLimits : Option CoreFault → Type 0
-AreLimits None = ⊤
-AreLimits (Some fault) = IsLimit fault
-
-or_limits : (first then : Option CoreFault) → AreLimits first → AreLimits then → AreLimits (or_else first then)
-or_limits None then first_is then_is = then_is
-or_limits (Some fault) then first_is then_is = first_is
-
-limit_is : (test : Bool) (what : What) (max : ℕ) → AreLimits (refuse_if test (Limit what max))
-limit_is true what max = tt
-limit_is false what max = tt
-
-limit_at_is : (blocks bytes count more size : ℕ) → AreLimits (limit_at blocks bytes count more size)
-limit_at_is blocks bytes count more size =
-    or_limits (refuse_if (nat_lt MAX_BLOCK_BYTES size) (Limit Block MAX_BLOCK_BYTES)) _ (limit_is (nat_lt MAX_BLOCK_BYTES size) Block MAX_BLOCK_BYTES)
-    (or_limits (refuse_if (nat_le MAX_BATCH_BLOCKS count) (Limit Batch MAX_BATCH_BLOCKS)) _ (limit_is (nat_le MAX_BATCH_BLOCKS count) Batch MAX_BATCH_BLOCKS)
-    (or_limits (refuse_if (nat_lt MAX_BATCH_BYTES (more + size)) (Limit BatchBytes MAX_BATCH_BYTES)) _
-    (limit_is (nat_lt MAX_BATCH_BYTES (more + size)) BatchBytes MAX_BATCH_BYTES)
-    (or_limits (refuse_if (nat_le MAX_BLOCKS (blocks + count)) (Limit Blocks MAX_BLOCKS)) _ (limit_is (nat_le MAX_BLOCKS (blocks + count)) Blocks MAX_BLOCKS)
-    (limit_is (nat_lt MAX_CORE_BYTES (bytes + more + size)) Bytes MAX_CORE_BYTES))))
-
-limit_in_is : (blocks bytes count more : ℕ) (batch : List (List ℕ)) → AreLimits (limit_in blocks bytes count more batch)
-unfolding limit_in
-limit_in_is blocks bytes count more [] = tt
-limit_in_is blocks bytes count more (block ∷ batch) =
-    or_limits (limit_at blocks bytes count more (length block)) _ (limit_at_is blocks bytes count more (length block))
-    (limit_in_is blocks bytes (count + 1) (more + length block) batch)
-
-refusal_is : (m : Content) (batch : List (List ℕ)) (fault : CoreFault) → append_refusal m batch ≡ Some fault → IsLimit fault
-refusal_is m batch fault refused = subst AreLimits refused (limit_in_is m.length (bytes_under (roots m)) 0 0 batch)
-
 -- a firm core stops by one of these
 abbrev IsStop : CoreFault → Type 0
 IsStop Memory = ⊤
@@ -106,8 +71,8 @@ own_stops old new (BadStore area at) unbroken stands own = cc
 own_stops old new (Damaged place want have) unbroken stands own = cc
 own_stops old new fault unbroken stands own = absurd own
 
-own_limit : (old new : CoreState) (what : What) (max : ℕ) → IsChangeFault true old new (Limit what max) → what ≡ Oplog
-own_limit old new Oplog max own = refl
+own_limit : (old new : CoreState) (what : What) (max : ℕ) → IsChangeFault true old new (Limit what max) → what ≡ EntriesBytes
+own_limit old new EntriesBytes max own = refl
 own_limit old new what max own = absurd own
 
 module _ {D A : Type 0} (disk : D → DiskView) (accepts : A → List ℕ → List ℕ → Bool) where
@@ -179,12 +144,33 @@ module _ {D A : Type 0} (disk : D → DiskView) (accepts : A → List ℕ → Li
         let same : fails.fault ≡ fault = cc in
         subst (IsChangeFault true (state_of disk accepts core) (state_of disk accepts now)) same fails.own
 
+    -- the change file has no room for its entry
+    full : (id : List ℕ) (max : ℕ) → Stays core → Appended batch core now (Err (Limit EntriesBytes max)) → IsFirm disk accepts id core
+        → IsRefused (accepts now.auth) ((disk_under disk now).reads OplogArea) (shown disk now) batch EntriesBytes max
+    full id max stay appended firm =
+        let is = appended.change.full max (firm_core_stands id core stay firm) refl in
+        let same = same_content id (Limit EntriesBytes max) stay appended firm in
+        let room = subst (λ (a : A). LacksRoom (accepts a) (shown disk core) (Append batch) core.place.used) (sym appended.change.auth) is.room in
+        inr (
+          refl,
+          is.most,
+          record {
+            file = firm.firm.file;
+            is_file = subst (λ (d : D). IsFile ((disk d).reads OplogArea) firm.firm.file) (sym is.untouched) firm.firm.is_file;
+            room = subst (λ (used : ℕ). LacksRoom (accepts now.auth) (shown disk now) (Append batch) used) firm.firm.behind.used
+                (subst (λ (m : Content). LacksRoom (accepts now.auth) m (Append batch) core.place.used) (sym same) room);
+          },
+        )
+
     -- it was refused at a limit
     refused : (id : List ℕ) (what : What) (max : ℕ) → Stays core → Appended batch core now (Err (Limit what max)) → IsFirm disk accepts id core
-        → IsRefused (shown disk now) batch what max
+        → IsRefused (accepts now.auth) ((disk_under disk now).reads OplogArea) (shown disk now) batch what max
     refused id what max stay appended firm = elim (appended.acts.next (firm_core_stands id core stay firm)) [
       | inl next ↦ inl (subst (λ (m : Content). append_refusal m batch ≡ Some (Limit what max)) (sym next.1) next.0)
-      | inr fails ↦ inr (own_limit (state_of disk accepts core) (state_of disk accepts now) what max (own (Limit what max) fails))
+      | inr fails ↦
+          let is = own_limit (state_of disk accepts core) (state_of disk accepts now) what max (own (Limit what max) fails) in
+          subst (λ (w : What). IsRefused (accepts now.auth) ((disk_under disk now).reads OplogArea) (shown disk now) batch w max) (sym is)
+          (full id max stay (subst (λ (w : What). Appended batch core now (Err (Limit w max))) is appended) firm)
     ]
 
     -- no other fault comes

@@ -27,7 +27,7 @@ use Rattle.hypercore_cli.specs.declared.batches.AppendFault.{AppendFault}
 use Rattle.hypercore_cli.specs.declared.batches.AppendFault.TheVariants.{ReadFault as ReadFails, TooLong, Core as CoreFails}
 use Rattle.hypercore_cli.specs.Faults.{append_end}
 use Rattle.hypercore_cli.specs.Batches.{Grows}
-use Rattle.hypercore_cli.specs.Appends.{KeepsCore, IsFirm, HasGrown, Commits, AppendsTo}
+use Rattle.hypercore_cli.specs.Appends.{KeepsCore, IsFirm, HasGrown, IsRefused as IsRefusedAt, Commits, AppendsTo}
 use Rattle.hypercore_cli.specs.Cores.{NamedCore, StoodFor}
 use Rattle.hypercore_cli.specs.Extends.{GrowsTo, Grew, GrewFirst, GrewToLimit, IsLeft, Broke, Stops, RefusesLines, RefusesAppend, AppendsAll, ExtendsTo}
 use Rattle.hypercore_cli.specs.declared.outcome.Outcome.{Outcome}
@@ -81,7 +81,16 @@ module _ {D A : Type 0} (disk : D → DiskView) (authority : A → List ℕ → 
   grew_to_limit : (batches : List (List (List ℕ))) (what : What) (max : ℕ) → Commits disk authority batches core now (Err (Limit what max)) → GrewToLimit c batches what max
   grew_to_limit batches what max commits m stood =
       let met = (commits.firm c.id (is_firm m stood)).2 in
-      (met.0, met.1, met.2, met.3, shown disk now, grown m stood met.0 commits.keeps met.4, met.5)
+      let by = ap authority commits.keeps.auth ∙ taken.says.by in
+      let refused = subst (λ (f : List ℕ → List ℕ → Bool). IsRefusedAt f ((disk_under disk now).reads Oplog) (shown disk now) met.1 what max) by met.5 in (
+        met.0,
+        met.1,
+        met.2,
+        met.3,
+        shown disk now,
+        grown m stood met.0 commits.keeps met.4,
+        subst (λ (area : List ℕ). IsRefusedAt c.accepts area (shown disk now) met.1 what max) (sym ((here stood.honest).reads Oplog)) refused,
+      )
 
   -- a crash of the shelf's disk is one of the core's
   same_image : IsTrue c.old.honest → (areas : Areas) → IsImage (c.new.disk c.id) (c.new.disk c.id).moment areas → IsImage (disk_under disk now) (disk_under disk now).moment areas

@@ -6,19 +6,23 @@ use Rattle.outside_traits.specs.Faults.{Rose}
 use Rattle.outside_traits.specs.Streams.{SourceView}
 use Rattle.outside_traits.specs.Lines.{IsOpen, HasNoFeed, lines_of}
 use Rattle.flat_tree.specs.declared.limits.TheConstants.{MAX_BLOCK_BYTES, MAX_BATCH_BLOCKS, MAX_BATCH_BYTES}
+use Rattle.disk_trait.specs.declared.disk.Area.TheVariants.{Oplog as OplogArea}
 use Rattle.disk_trait.specs.Disk.{DiskView}
 use Rattle.disk_trait.specs.Runs.{LeavesOnly}
 use Rattle.node_set.specs.declared.fault.CoreFault.{CoreFault}
 use Rattle.node_set.specs.declared.fault.CoreFault.TheVariants.{Memory, StoreFault, Limit}
 use Rattle.node_set.specs.Contents.{Content}
 use Rattle.merkle_nodes.specs.declared.limit.What.{What}
-use Rattle.merkle_nodes.specs.declared.limit.What.TheVariants.{Oplog}
+use Rattle.merkle_nodes.specs.declared.limit.What.TheVariants.{Oplog as EntriesBytes}
 use Rattle.merkle_batch.specs.Honest.{BlockFits}
+use Rattle.oplog_file.specs.declared.layout.TheConstants.{MAX_ENTRIES_BYTES}
+use Rattle.oplog_file.specs.Counting.{bytes_of}
+use Rattle.oplog_file.specs.Files.{File, IsFile}
 use Rattle.core_state.specs.Refusals.{append_refusal}
 use Rattle.core_state.specs.Events.Event.{Append}
 use Rattle.core_disk.specs.Standing.{StandsFor}
 use Rattle.core_disk.specs.Firm.{IsFirmFor}
-use Rattle.core_disk.specs.Cored.{Cored, shown, disk_under, IsBetween}
+use Rattle.core_disk.specs.Cored.{Cored, shown, disk_under, IsBetween, LacksRoom}
 use Rattle.hypercore_cli.specs.Proves.{HasTaken}
 use Rattle.hypercore_cli.specs.Batches.{is_full_for, batches_of, closed_of, Grows}
 use Rattle.hypercore_cli.specs.declared.batches.AppendFault.{AppendFault}
@@ -90,16 +94,23 @@ abbrev pub StopsAmong : {D A : Type 0} → (D → DiskView) → (A → List ℕ 
 StopsAmong disk accepts id batches core now =
     (done : List (List (List ℕ))) × (rest : List (List (List ℕ))) × (batches ≡ done ++ rest) × HasGrown disk accepts id done core now
 
--- with this batch the core's log would pass a limit, or the change file has no room for its entry
-abbrev pub IsRefused : Content → List (List ℕ) → What → ℕ → Type 0
-IsRefused m batch what max = (append_refusal m batch ≡ Some (Limit what max)) ⊎ (what ≡ Oplog)
+-- the entry of a batch finds no room in this change file
+pub record FindsItFull (accepts : List ℕ → List ℕ → Bool) (oplog : List ℕ) (m : Content) (batch : List (List ℕ)) : Type 0 where
+  pub file : File
+  pub is_file : IsFile oplog file
+  pub room : LacksRoom accepts m (Append batch) (bytes_of file.frames)
+
+-- with this batch the log would pass a limit of its own, or its change file the most bytes of entries
+abbrev pub IsRefused : (List ℕ → List ℕ → Bool) → List ℕ → Content → List (List ℕ) → What → ℕ → Type 0
+IsRefused accepts oplog m batch what max = (append_refusal m batch ≡ Some (Limit what max))
+    ⊎ ((what ≡ EntriesBytes) × (max ≡ MAX_ENTRIES_BYTES) × FindsItFull accepts oplog m batch)
 
 -- the core refused one of the batches, and has grown by those before it
 abbrev pub RefusesAmong : {D A : Type 0} → (D → DiskView) → (A → List ℕ → List ℕ → Bool) → List ℕ → List (List (List ℕ)) → Cored D A → Cored D A
     → What → ℕ → Type 0
 RefusesAmong disk accepts id batches core now what max =
     (done : List (List (List ℕ))) × (batch : List (List ℕ)) × (rest : List (List (List ℕ))) × (batches ≡ done ++ batch ∷ rest)
-    × HasGrown disk accepts id done core now × IsRefused (shown disk now) batch what max
+    × HasGrown disk accepts id done core now × IsRefused (accepts now.auth) ((disk_under disk now).reads OplogArea) (shown disk now) batch what max
 
 -- why a firm core stops: no memory, the disk, or a limit; no other fault comes
 abbrev pub TellsWhy : {D A : Type 0} → (D → DiskView) → (A → List ℕ → List ℕ → Bool) → List ℕ → List (List (List ℕ)) → Cored D A → Cored D A

@@ -47,11 +47,11 @@ abbrev pub GrewFirst : NamedCore → List (List (List ℕ)) → Type 0
 GrewFirst c batches = (m : Content) → StoodFor c m
     → (done : List (List (List ℕ))) × (rest : List (List (List ℕ))) × (batches ≡ done ++ rest) × (after : Content) × GrowsTo c m done after
 
--- The first of these batches did; with the next one the log would pass a limit, or its entry finds no room.
+-- The first of these batches did; with the next one the log would pass a limit of its own, or its change file the most bytes of entries.
 abbrev pub GrewToLimit : NamedCore → List (List (List ℕ)) → What → ℕ → Type 0
 GrewToLimit c batches what max = (m : Content) → StoodFor c m
     → (done : List (List (List ℕ))) × (batch : List (List ℕ)) × (rest : List (List (List ℕ))) × (batches ≡ done ++ batch ∷ rest)
-    × (after : Content) × GrowsTo c m done after × IsRefused after batch what max
+    × (after : Content) × GrowsTo c m done after × IsRefused c.accepts ((c.new.disk c.id).reads OplogArea) after batch what max
 
 -- A batch failed in the disk: a crash leaves the content before it or the one after it, but for what makes frames by chance.
 pub record IsLeft (c : NamedCore) (before : Content) (batch : List (List ℕ)) : Type 0 where

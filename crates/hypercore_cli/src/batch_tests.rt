@@ -38,9 +38,21 @@ fn input(alloc: Global, lines: usize, last: usize) -> Result<MemSource, Fail> {
     Ok(MemSource::new(alloc, blob))
 }
 
+// Whether the lines are appended to a new core, how many blocks it then has, and how many calls that took.
+fn appended(alloc: Global, lines: usize, last: usize) -> Result<(bool, u64, u64), Fail> {
+    let mut core = new_core(alloc, MemDisk::new(alloc, &ROOM)?)?;
+    let answer = append_lines(alloc, &mut core, &mut input(alloc, lines, last)?);
+    let length = core.info().length;
+    let calls = core.into_disk().calls();
+    Ok((
+        answer.is_ok(),
+        length,
+        calls.saturating_sub(calls_of_making(alloc)?),
+    ))
+}
+
 #[test]
 fn lines_are_committed_in_batches(rt: HostRuntime) -> Result<(), Fail> {
-    let alloc = rt.alloc();
     let most = MAX_BATCH_BLOCKS;
     for (lines, last, length, commits) in [
         (0, 0, 0, 0),
@@ -52,21 +64,9 @@ fn lines_are_committed_in_batches(rt: HostRuntime) -> Result<(), Fail> {
         (2 * most, 0, 2_048, 2),
         (2 * most + 1, 0, 2_049, 3),
     ] {
-        let mut core = new_core(alloc, MemDisk::new(alloc, &ROOM)?)?;
-        let answer = append_lines(alloc, &mut core, &mut input(alloc, lines, last)?);
-        assert_eq!(rt; answer, Ok(()), "{lines} lines and {last} bytes");
         assert_eq!(rt;
-            core.info().length,
-            length,
-            "{lines} lines and {last} bytes"
-        );
-        let calls = core
-            .into_disk()
-            .calls()
-            .saturating_sub(calls_of_making(alloc)?);
-        assert_eq!(rt;
-            calls,
-            COMMIT_CALLS * commits,
+            appended(rt.alloc(), lines, last)?,
+            (true, length, COMMIT_CALLS * commits),
             "{lines} lines and {last} bytes"
         );
     }
@@ -81,8 +81,11 @@ fn a_line_too_long(rt: HostRuntime) -> Result<(), Fail> {
         let mut core = new_core(alloc, MemDisk::new(alloc, &ROOM)?)?;
         let long = MAX_BLOCK_BYTES as usize + 1;
         let answer = append_lines(alloc, &mut core, &mut input(alloc, lines, long)?);
-        assert_eq!(rt; answer, Err(AppendFault::TooLong), "{lines} lines");
-        assert_eq!(rt; core.info().length, length, "{lines} lines");
+        assert_eq!(rt;
+            (answer, core.info().length),
+            (Err(AppendFault::TooLong), length),
+            "{lines} lines"
+        );
     }
     Ok(())
 }
@@ -96,10 +99,29 @@ fn a_read_that_fails(rt: HostRuntime) -> Result<(), Fail> {
         let mut source = input(alloc, lines, 1)?;
         source.plan_faults(vec![in alloc; 1]?);
         let answer = append_lines(alloc, &mut core, &mut source);
-        assert_eq!(rt; answer, Err(AppendFault::ReadFault), "{lines} lines");
-        assert_eq!(rt; core.info().length, length, "{lines} lines");
+        assert_eq!(rt;
+            (answer, core.info().length),
+            (Err(AppendFault::ReadFault), length),
+            "{lines} lines"
+        );
     }
     Ok(())
+}
+
+// The length of the log that a disk opens as.
+fn length_on(alloc: Global, disk: MemDisk) -> Result<u64, Fail> {
+    match DiskCore::open_store(alloc, disk, &[7; 32], PlainAuth { mark: 1 }) {
+        Ok(core) => Ok(core.info().length),
+        Err(_) => Err(Fail::new("not opened")),
+    }
+}
+
+// Two batches over a disk that fails from a call on: the answer, the length in memory, and the one that is then opened.
+fn appended_for(alloc: Global, passes: u64) -> Result<(Result<(), AppendFault>, u64, u64), Fail> {
+    let mut core = new_core(alloc, FuseDisk::new(MemDisk::new(alloc, &ROOM)?, passes))?;
+    let answer = append_lines(alloc, &mut core, &mut input(alloc, 1_024, 1)?);
+    let length = core.info().length;
+    Ok((answer, length, length_on(alloc, core.into_disk().inner())?))
 }
 
 // The disk fails from each call of two commits on, and then has the content after the batches so far, or after one
@@ -109,22 +131,17 @@ fn a_disk_that_fails(rt: HostRuntime) -> Result<(), Fail> {
     let alloc = rt.alloc();
     let making = calls_of_making(alloc)?;
     for passes in 0..2 * COMMIT_CALLS {
-        let disk = FuseDisk::new(MemDisk::new(alloc, &ROOM)?, making.saturating_add(passes));
-        let mut core = new_core(alloc, disk)?;
-        let answer = append_lines(alloc, &mut core, &mut input(alloc, 1_024, 1)?);
-        let fault = AppendFault::Core(CoreFault::StoreFault);
-        assert_eq!(rt; answer, Err(fault), "after {passes} calls");
+        let (answer, length, opened) = appended_for(alloc, making.saturating_add(passes))?;
         let done = 1_024 * (passes / COMMIT_CALLS);
-        assert_eq!(rt; core.info().length, done, "after {passes} calls");
-        let disk = core.into_disk().inner();
-        let Ok(opened) = DiskCore::open_store(alloc, disk, &[7; 32], PlainAuth { mark: 1 }) else {
-            return Err(Fail::new("not opened"));
-        };
+        assert_eq!(rt;
+            (answer, length),
+            (Err(AppendFault::Core(CoreFault::StoreFault)), done),
+            "after {passes} calls"
+        );
         let more = if done == 0 { 1_024 } else { 1_025 };
-        let length = opened.info().length;
         assert!(rt;
-            length == done || length == more,
-            "{length} after {passes} calls"
+            opened == done || opened == more,
+            "{opened} after {passes} calls"
         );
     }
     Ok(())

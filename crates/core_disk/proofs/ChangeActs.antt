@@ -1,5 +1,5 @@
 -- What a change of a core over a disk tells: where nothing is written, and where a planned change was given to its disk.
-use Rattle.std.proofs.Common.{◌≡◌, ◌≢◌, ◌⊎◌, inl, inr, ℕ, Bool, true, List, Option, Some, None, Result, Ok, Err, refl, sym, ap, subst, ◌∙◌, arith}
+use Rattle.std.proofs.Common.{◌≡◌, ◌≢◌, ◌⊎◌, inl, inr, ℕ, Bool, true, ◌+◌, List, Option, Some, None, Result, Ok, Err, refl, sym, ap, subst, ◌∙◌, arith}
 use Rattle.std.specs.Prelude.{IsTrue, IfErr, OnOk, OnErr, ◌≤◌}
 use Rattle.disk_trait.specs.declared.disk.Area.TheVariants.{Blocks as BlocksArea}
 use Rattle.disk_trait.specs.Disk.{DiskView, MayStay}
@@ -24,10 +24,10 @@ use Rattle.core_state.specs.Calls.{Acts, Fails, IsSafe, IsOwnFault, IsChangeFaul
 use Rattle.core_disk.specs.InHand.{IsKept, opened_of}
 use Rattle.core_disk.specs.Laid.{IsRooted}
 use Rattle.core_disk.specs.Stored.{Stored, content_of}
-use Rattle.core_disk.specs.Plans.{Part, laid, TornBy}
+use Rattle.core_disk.specs.Plans.{Part, laid, calls_for, TornBy}
 use Rattle.core_disk.specs.Firm.{WritesChange}
 use Rattle.core_disk.specs.Committing.{TakesIn, Tells, IsCommitFault}
-use Rattle.core_disk.specs.Cored.{Cored, core_state, state_of, shown, ChangesDisk}
+use Rattle.core_disk.specs.Cored.{Cored, core_state, state_of, shown, bytes_of, ChangesDisk}
 use Rattle.core_disk.proofs.CoredLemmas.{Stands, Plan, bounded, stands_told, broken_acts, done_acts}
 use Rattle.core_disk.proofs.ChangeRefusals.{next_other}
 use Rattle.core_disk.proofs.SafeChanges.{told_fault, rests_disk, written_disk}
@@ -160,7 +160,7 @@ module _ {D A : Type 0} (disk : D → DiskView) (accepts : A → List ℕ → Li
     pub err : OnErr done (StandsThere old.place place)
     pub why : IfErr done (IsCommitFault old.place.used e (opened_of old.store.hand) (disk old.store.disk) (disk store.disk))
     pub quiet : IfErr done (λ (fault : CoreFault). (fault ≡ StoreFault) ⊎ (store.disk ≡ old.store.disk))
-    pub calls : Calls 4 (disk old.store.disk) (disk store.disk) done
+    pub calls : Calls (calls_for (bytes_of event (shown disk old)) + 2) (disk old.store.disk) (disk store.disk) done
 
   -- the plan that it was made by
   abbrev PlansOf : Entry → Option Part → (List ℕ → List ℕ → Bool) → Stored D → Type 0

@@ -16,10 +16,9 @@ use Rattle.compact_enc.specs.Spelling.{uint_spelling}
 use Rattle.oplog_file.specs.Files.{File, IsFile, next_frame, NoChance}
 use Rattle.oplog_file.specs.Writers.{IsFirmFile, IsTrim, AddsEntry, with_entry}
 use Rattle.oplog_file.proofs.WriteLaws.{keeps_touches}
-use Rattle.core_disk.specs.Plans.{Part, TornBy}
+use Rattle.core_disk.specs.Plans.{Part, bytes_in, laid, TornBy}
 use Rattle.core_disk.specs.Firm.{IsBefore, IsAfter, IsCommitted, WritesChange}
-use Rattle.core_disk.specs.declared.writing.BlocksPart.{BlocksPart}
-use Rattle.core_disk.specs.Bringing.{part_of, LeavesLaid, Brings}
+use Rattle.core_disk.specs.Bringing.{LeavesLaid, Brings}
 
 -- an entry's spelling has some bytes, as its head has a signature
 pub entry_some : (e : Entry) → EntryFits e → 0 < length (entry_spelling e)
@@ -77,13 +76,17 @@ pub bring_failed : {T E S F : Type 0} (at : ℕ) (bytes : List ℕ) (old new : D
     → Brings {T = T} {E = E} (Some (record { at = at; bytes = bytes })) old new (Err e')
 bring_failed at bytes old new e e' writes = record { touches = writes.touches; whole = tt; images = tt }
 
--- nothing comes in
-pub none_brought : {T E : Type 0} (part : Option BlocksPart) (disk : DiskView) (x : T) → part ≡ None → Brings {T = T} {E = E} (part_of part) disk disk (Ok x)
-none_brought {T} {E} part disk x is = subst (λ (p : Option BlocksPart). Brings {T = T} {E = E} (part_of p) disk disk (Ok x)) (sym is) (record {
-  touches = keeps_touches (TornBy None) BlocksArea disk disk (λ d. refl) (keeps_none disk);
-  whole = refl;
-  images = λ c image. (c, image, refl);
-})
+-- no byte comes in
+pub none_brought : {T E : Type 0} (part : Option Part) (disk : DiskView) (x : T) → bytes_in part ≡ [] → Brings {T = T} {E = E} part disk disk (Ok x)
+none_brought part disk x none = record {
+  touches = keeps_touches (TornBy part) BlocksArea disk disk (torn_same part) (keeps_none disk);
+  whole = same part none (disk.reads BlocksArea);
+  images = λ c image. (c, image, same part none c);
+}
+  where
+    same : (p : Option Part) → bytes_in p ≡ [] → (area : List ℕ) → area ≡ laid p area
+    same None is area = refl
+    same (Some p) is area = rw is refl
 
 -- ---- the whole change
 

@@ -319,10 +319,10 @@ unwritten_acts accepts old new hand after now used e event part fault kept roote
         (torn is.honest))
 
 -- a change that was planned, of which it is told whether it was written
-pub done_acts : (accepts : List ℕ → List ℕ → Bool) (old new : DiskView) (hand after : InHand) (now : Option ℕ) (used : ℕ) (e : Entry) (event : Event) (part : Option Part)
+pub done_acts : {most : ℕ} (accepts : List ℕ → List ℕ → Bool) (old new : DiskView) (hand after : InHand) (now : Option ℕ) (used : ℕ) (e : Entry) (event : Event) (part : Option Part)
     (done : Result (Unit {0}) CoreFault) (answer : Result Receipt CoreFault) → IsKept hand → IsKept after → IsRooted (opened_of hand) → e.head.length ≤ MAX_BLOCKS
     → (Stands accepts old hand → Plan accepts (content_of old hand) (opened_of hand) event e part)
-    → TakesIn e (opened_of hand) (opened_of after) done → Calls 4 old new done
+    → TakesIn e (opened_of hand) (opened_of after) done → Calls most old new done
     → (IsTrue old.honest → TornBy part (old.reads BlocksArea) (new.reads BlocksArea))
     → (IsTrue old.honest → OnOk done (new.reads BlocksArea ≡ laid part (old.reads BlocksArea)))
     → IfErr done (IsCommitFault used e (opened_of hand) old new)

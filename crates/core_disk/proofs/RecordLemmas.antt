@@ -11,12 +11,10 @@ use Rattle.flat_tree.specs.Roots.{full_roots_of}
 use Rattle.flat_tree.specs.declared.limits.TheConstants.{MAX_CORE_BYTES}
 use Rattle.flat_tree.proofs.RootLemmas.{length-numbers}
 use Rattle.merkle_nodes.specs.declared.node.Node.{Node}
-use Rattle.merkle_nodes.specs.declared.node.Twig.{Twig}
 use Rattle.merkle_nodes.specs.Joined.{Values}
 use Rattle.merkle_nodes.specs.Roots.{twig_of}
 use Rattle.oplog_form.specs.Nodes.{RecordFits}
 use Rattle.oplog_form.specs.Records.{first_of}
-use Rattle.node_set.specs.Tables.{FitsAsRoot}
 use Rattle.node_set.proofs.AppendLemmas.{all_get, all_so}
 use Rattle.node_set.proofs.TableRoots.{IsRootsOf, root_tree, root_number}
 use Rattle.node_set.specs.Nodes.{NodePages, has_place, values_of, with_node, with_nodes}
@@ -215,20 +213,11 @@ one_unknown value trees at tree there none = elim (cases_Bool (are_known value t
       let clash : true ≡ false = sym some ∙ ap is_some none in cc
 ]
 
-all_fit : (value : Values) (trees : List Subtree) → AllByRecursion (λ (tree : Subtree). FitsAsRoot (value tree.depth tree.offset)) trees → are_known value trees ≡ true
-all_fit value trees fit =
-    known_test value trees (all_so (λ (tree : Subtree). FitsAsRoot (value tree.depth tree.offset)) (λ (tree : Subtree). is_some (value tree.depth tree.offset) ≡ true)
-    (λ tree fits. fits_some (value tree.depth tree.offset) fits) trees fit)
-  where
-    fits_some : (found : Option Twig) → FitsAsRoot found → is_some found ≡ true
-    fits_some None fits = absurd fits
-    fits_some (Some twig) fits = refl
-
 pub roots_found : (value : Values) (n at : ℕ) (roots : List Node) → length (full_roots_of n) ≤ at → IsRootsOf value (take at (full_roots_of n)) roots
     → GivesRoots value n (Some roots)
 roots_found value n at roots past are =
     let whole = subst (λ (trees : List Subtree). IsRootsOf value trees roots) (take_all at (full_roots_of n) past) are in
-    (all_fit value (full_roots_of n) whole.fit, whole.nodes, whole.sizes)
+    (known_test value (full_roots_of n) whole.stored, whole.nodes, whole.sizes)
 
 pub roots_lack : (value : Values) (n at index : ℕ) (places : List ℕ) (count : ℕ) → places ≡ numbers_of (full_roots_of n) → count ≡ length places → at < count
     → slice_get places at ≡ Some index → ((depth offset : ℕ) → number depth offset ≡ index → None ≡ value depth offset)

@@ -1,5 +1,5 @@
 -- What a change does to the disk of a core, and that a crash can't take what it stands for.
-use Rattle.std.proofs.Common.{◌≡◌, ◌≢◌, ◌⊎◌, inl, inr, ℕ, Bool, ◌≤◌, List, Option, Some, None, Result, Ok, Err, refl, sym, ap, subst, ◌∙◌, arith}
+use Rattle.std.proofs.Common.{◌≡◌, ◌≢◌, ◌⊎◌, inl, inr, ℕ, Bool, ◌+◌, ◌≤◌, List, Option, Some, None, Result, Ok, Err, refl, sym, ap, subst, ◌∙◌, arith}
 use Rattle.outside_traits.specs.Faults.{Rose}
 use Rattle.std.specs.Prelude.{IsTrue, IfErr, OnOk, OnErr}
 use Rattle.flat_tree.specs.declared.limits.TheConstants.{MAX_BLOCKS}
@@ -25,10 +25,10 @@ use Rattle.core_disk.specs.InHand.{IsKept, Agrees, opened_of}
 use Rattle.core_disk.specs.Laid.{IsRooted, content_in}
 use Rattle.core_disk.specs.Standing.{HasBlocks, StandsFor}
 use Rattle.core_disk.specs.Stored.{blocks_area}
-use Rattle.core_disk.specs.Plans.{Part, laid}
+use Rattle.core_disk.specs.Plans.{Part, laid, calls_for}
 use Rattle.core_disk.specs.Firm.{IsFirmFor, WritesChange, Commits}
 use Rattle.core_disk.specs.Committing.{TakesIn, Tells, IsCommitFault}
-use Rattle.core_disk.specs.Cored.{Cored, state_of, shown, IsNextBy, IsFull, ChangesDisk}
+use Rattle.core_disk.specs.Cored.{Cored, state_of, shown, bytes_of, IsNextBy, IsFull, ChangesDisk}
 use Rattle.core_disk.proofs.CoredLemmas.{Stands, Plan, bounded, stands_told, comes}
 use Rattle.core_disk.proofs.FirmLaws.{firm_stands, firm_there, change_commits}
 
@@ -59,11 +59,11 @@ module _ {D A : Type 0} (disk : D → DiskView) (accepts : List ℕ → List ℕ
     (rooted : IsRooted (opened_of old.store.hand))
     (plan : Stands accepts (disk old.store.disk) old.store.hand → Plan accepts (shown disk old) (opened_of old.store.hand) event e part)
     (is : Stands accepts (disk old.store.disk) old.store.hand) where
-  firm_written : (done : Result (Unit {0}) CoreFault) → TakesIn e (opened_of old.store.hand) (opened_of new.store.hand) done
+  firm_written : {most : ℕ} (done : Result (Unit {0}) CoreFault) → TakesIn e (opened_of old.store.hand) (opened_of new.store.hand) done
       → (IsTrue (disk old.store.disk).honest → OnOk done ((disk new.store.disk).reads BlocksArea ≡ laid part ((disk old.store.disk).reads BlocksArea)))
       → OnErr done (StandsThere old.place new.place)
       → IfErr done (λ (fault : CoreFault). (fault ≡ StoreFault) ⊎ (new.store.disk ≡ old.store.disk))
-      → Calls 4 (disk old.store.disk) (disk new.store.disk) done
+      → Calls most (disk old.store.disk) (disk new.store.disk) done
       → Tells (receipt_of (shown disk new)) e.commit (disk new.store.disk).faults None done new.broken answer
       → IsFirmFor accepts id (disk old.store.disk) old.place (shown disk old)
       → OnOk done (IsFirmFor accepts id (disk new.store.disk) new.place (plan is).after)
@@ -98,8 +98,8 @@ told_fault (Ok receipt) = StoreFault
 told_fault (Err fault) = fault
 
 -- a fault of the disk is told only where one came
-risen : (receipt : Option Commit → Receipt) (commit : Commit) (old new : DiskView) (now : Option ℕ) (answer : Result Receipt CoreFault)
-    (done : Result (Unit {0}) CoreFault) → Calls 4 old new done → Tells receipt commit new.faults None done now answer → answer ≡ Err StoreFault → Rose old.faults new.faults
+risen : {most : ℕ} (receipt : Option Commit → Receipt) (commit : Commit) (old new : DiskView) (now : Option ℕ) (answer : Result Receipt CoreFault)
+    (done : Result (Unit {0}) CoreFault) → Calls most old new done → Tells receipt commit new.faults None done now answer → answer ≡ Err StoreFault → Rose old.faults new.faults
 risen receipt commit old new now answer (Ok _) calls tells failed = let clash = sym tells.0 ∙ failed in cc
 risen receipt commit old new now answer (Err fault) calls tells failed = calls.rose (ap Err (ap told_fault (sym tells.0 ∙ failed)))
 
@@ -156,7 +156,7 @@ pub written_disk : {D A : Type 0} (disk : D → DiskView) (accepts : A → List 
     → OnErr done (StandsThere old.place new.place)
     → IfErr done (IsCommitFault old.place.used e (opened_of old.store.hand) (disk old.store.disk) (disk new.store.disk))
     → IfErr done (λ (fault : CoreFault). (fault ≡ StoreFault) ⊎ (new.store.disk ≡ old.store.disk))
-    → Calls 4 (disk old.store.disk) (disk new.store.disk) done
+    → Calls (calls_for (bytes_of event (shown disk old)) + 2) (disk old.store.disk) (disk new.store.disk) done
     → Tells (receipt_of (shown disk new)) e.commit (disk new.store.disk).faults None done new.broken answer
     → ChangesDisk disk accepts event old new answer
 written_disk disk accepts event old new e part done answer stays auth whole kept after rooted plan takes writes behind over there why quiet calls tells = record {

@@ -36,6 +36,7 @@ use Rattle.core_disk.specs.Following.{follows, any_from}
 use Rattle.core_disk.specs.Areas.{Areas, held_in, tree_values, entries_give, file_gives, areas_give}
 use Rattle.core_disk.specs.Areas.{head_of}
 use Rattle.core_disk.specs.Written.{is_new}
+use Rattle.core_disk.specs.declared.layout.TheConstants.{NODE_BYTES, ID_AT}
 
 -- ---- a new store
 
@@ -165,3 +166,11 @@ clear_writes_nothing = refl
 pub upgrade_writes_roots : written two_blocks (upgrade_content 4 (no_twig ∷ []) signature two_blocks) ≡ 5 ∷ 3 ∷ []
 unfolding joined value_in any_under end_block_of first_block_of number cover_of cover_in largest_up_to G round rounds F words state_after last_state blake2b hash_of
 upgrade_writes_roots = refl
+
+-- ---- sizes
+
+node_bytes_is : NODE_BYTES ≡ 40
+node_bytes_is = refl
+
+id_at_is : ID_AT ≡ 1
+id_at_is = refl

@@ -1,5 +1,6 @@
 -- A core over a disk: its parts, what is seen of it, and what a change does to a disk that a crash can't take.
 use Rattle.std.specs.Prelude.{◌≡◌, ◌≢◌, ◌⊎◌, ℕ, Bool, true, ◌+◌, ◌≤◌, ◌&&◌, List, [], ◌∷◌, length, Option, Some, None, Result, Ok, Err, IsTrue}
+use Rattle.std.specs.List.{concat}
 use Rattle.outside_traits.specs.Faults.{Rose}
 use Rattle.disk_trait.specs.declared.disk.Area.TheVariants.{Oplog}
 use Rattle.disk_trait.specs.Disk.{DiskView, Elapses, IsImage}
@@ -17,11 +18,13 @@ use Rattle.node_set.specs.declared.fault.CoreFault.TheVariants.{Broken, StoreFau
 use Rattle.node_set.specs.declared.fault.Receipt.{Receipt}
 use Rattle.node_set.specs.Contents.{Content}
 use Rattle.core_state.specs.Events.{Event}
+use Rattle.core_state.specs.Events.Event.{Append, Admit}
 use Rattle.core_state.specs.Events.Reply.{Done}
 use Rattle.core_state.specs.States.{CoreState}
 use Rattle.core_state.specs.Next.{Next}
 use Rattle.core_disk.specs.InHand.{InHand}
 use Rattle.core_disk.specs.Bringing.{FindsNoRoom}
+use Rattle.core_disk.specs.Plans.{bytes_in, calls_for, brought_by}
 use Rattle.core_disk.specs.Areas.{Areas}
 use Rattle.core_disk.specs.Standing.{StandsFor}
 use Rattle.core_disk.specs.Written.{IsEntryOf}
@@ -102,17 +105,19 @@ pub record IsFull {D A : Type 0} (accepts : A → List ℕ → List ℕ → Bool
   pub untouched : new.store.disk ≡ old.store.disk
   pub room : LacksRoom (accepts old.auth) m event old.place.used
 
--- the most calls of its disk that a change makes
-abbrev pub most_calls : ℕ
-most_calls = 4
+-- the bytes of blocks that an event brings to a content: those of an append, and of a proof's block that isn't held
+abbrev pub bytes_of : Event → Content → List ℕ
+bytes_of (Append blocks) m = concat blocks
+bytes_of (Admit p) m = bytes_in (brought_by p m)
+bytes_of event m = []
 
--- What a change does to the disk of a core: at most so many calls; a fault of the disk breaks the core at the count of faults then, and a
--- broken core answers so and makes no call; of one that stands it is refused at the limit of the change file only where its entry finds no
--- room; and a crash can't take what the disk stands for.
+-- What a change does to the disk of a core: at most two calls for its entry, and two more where it brings bytes of blocks; a fault of the
+-- disk breaks the core at the count of faults then, and a broken core answers so and makes no call; of one that stands it is refused at
+-- the limit of the change file only where its entry finds no room; and a crash can't take what the disk stands for.
 pub record ChangesDisk {D A : Type 0} (disk : D → DiskView) (accepts : A → List ℕ → List ℕ → Bool) (event : Event) (old new : Cored D A) (answer : Result Receipt CoreFault) : Type 0 where
   pub auth : new.auth ≡ old.auth
   pub honest : (disk new.store.disk).honest ≡ (disk old.store.disk).honest
-  pub calls : (disk new.store.disk).calls ≤ (disk old.store.disk).calls + most_calls
+  pub calls : (disk new.store.disk).calls ≤ (disk old.store.disk).calls + (calls_for (bytes_of event (shown disk old)) + 2)
   pub quiet : (count : ℕ) → old.broken ≡ Some count → (answer ≡ Err (Broken count)) × (new.store.disk ≡ old.store.disk)
   pub rose : answer ≡ Err StoreFault → Rose (disk old.store.disk).faults (disk new.store.disk).faults
   pub broke : answer ≡ Err StoreFault → new.broken ≡ Some (disk new.store.disk).faults

@@ -1,5 +1,5 @@
 -- A change of a core's content as it goes to the disk: the bytes that it writes, its entry, and the content after it.
-use Rattle.std.specs.Prelude.{◌≡◌, ℕ, Bool, true, false, ◌≤◌, List, [], length, Option, Some, None, Result, Ok, Err, IsTrue, if◌then◌else◌}
+use Rattle.std.specs.Prelude.{◌≡◌, ℕ, Bool, true, false, ◌≤◌, List, [], ◌∷◌, length, Option, Some, None, Result, Ok, Err, IsTrue, if◌then◌else◌}
 use Rattle.std.specs.List.{concat}
 use Rattle.disk_trait.specs.Disk.{overlay, Torn}
 use Rattle.commit_book.specs.declared.commit.Commit.{Commit}
@@ -34,6 +34,16 @@ pub record Part : Type 0 where
 abbrev pub laid : Option Part → List ℕ → List ℕ
 laid None area = area
 laid (Some part) area = overlay part.at part.bytes area
+
+-- the bytes of a part, none where there is none
+abbrev pub bytes_in : Option Part → List ℕ
+bytes_in None = []
+bytes_in (Some part) = part.bytes
+
+-- the calls of a disk that bring these bytes: a write and a sync, and none where there is no byte
+abbrev pub calls_for : List ℕ → ℕ
+calls_for [] = 0
+calls_for (byte ∷ bytes) = 2
 
 -- their write was cut short
 abbrev pub TornBy : Option Part → List ℕ → List ℕ → Type 0

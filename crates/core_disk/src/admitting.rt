@@ -16,7 +16,7 @@ ghost use Rattle.node_set.specs.Walks.{KeepsView};
 ghost use Rattle.node_set.specs.Whole.{IsWhole};
 ghost use Rattle.proof_check.specs.Admission.{IsPlain, IsServed, IsRefusal, refused};
 ghost use Rattle.proof_check.specs.Judge.{refusal_of};
-ghost use Rattle.core_disk.specs.Plans.{IsEntered, IsAdmitPlan, block_at};
+ghost use Rattle.core_disk.specs.Plans.{IsEntered, IsAdmitPlan, block_at, brought_by, bytes_in};
 ghost use Rattle.core_disk.specs.Planning.{IsInRange, MayBeRecords, AreRecords, IsJudged, CantBeRecords, GivesOthers, placed};
 
 use crate::records::last_of;
@@ -51,6 +51,8 @@ pub(crate) fn plan_admit<V: View, A: Verifier>(
         → IsSome prepared.now.upgrade → result ≡ Err (Refused (NewFork m.fork)) }
 
     // of any view, also of one that doesn't give what it stands for
+    ensures bytes { IfOk result (λ planned. bytes_in (block_at planned.at prepared.now.block)
+        ≡ bytes_in (brought_by prepared.now (V.view view.old).content)) }
     ensures entered { IfOk result (λ planned. IsEntered prepared.now (V.view view.old) planned.change) }
     ensures told { let v = V.view view.old in IfErr result (λ fault. IsRefusal fault
         ⊎ (TellsFault v (V.view view.new) fault ⊎ GivesOthers (A.accepts verifier.now) v fault)) }
@@ -88,6 +90,8 @@ fn with_place<V: View>(
     ensures records { IfOk result (λ planned. AreRecords change) }
     ensures place { let v = V.view view.old in IsTrue v.stands → IfOk result
         (λ planned. block_at planned.at prepared.now.block ≡ placed change.fresh prepared.now v.content) }
+    ensures bytes { IfOk result (λ planned. bytes_in (block_at planned.at prepared.now.block)
+        ≡ bytes_in (brought_by prepared.now (V.view view.old).content)) }
     ensures err { IfErr result (λ fault.
         TellsFault (V.view view.old) (V.view view.new) fault ⊎ CantBeRecords change.fresh fault) }
     ensures keeps { KeepsView (V.view view.old) (V.view view.new) }
@@ -114,6 +118,8 @@ fn place_of_block<V: View>(
     requires sizes { AllByRecursion RecordFits fresh.now }
     ensures place { let v = V.view view.old in IsTrue v.stands
         → IfOk result (λ at. block_at at prepared.now.block ≡ placed fresh.now prepared.now v.content) }
+    ensures bytes { IfOk result (λ at. bytes_in (block_at at prepared.now.block)
+        ≡ bytes_in (brought_by prepared.now (V.view view.old).content)) }
     ensures keeps { KeepsView (V.view view.old) (V.view view.new) }
     ensures cause { HasViewCause (V.view view.old) (V.view view.new) result }
 {

@@ -1,5 +1,5 @@
 //! A change is written, and taken in once it is on the disk.
-ghost use Rattle.std.specs.Prelude.{◌≡◌, ◌≤◌, ◌↔◌, ◌⊎◌, ℕ, length, IsTrue, IfErr, OnOk, OnErr, Some as Found};
+ghost use Rattle.std.specs.Prelude.{◌≡◌, ◌+◌, ◌≤◌, ◌↔◌, ◌⊎◌, ℕ, length, IsTrue, IfErr, OnOk, OnErr, Some as Found};
 ghost use Rattle.oplog_form.specs.Entries.{EntryFits, entry_spelling};
 ghost use Rattle.oplog_file.specs.Files.{File};
 ghost use Rattle.oplog_file.specs.Writers.{IsBehind, Stands, with_entry};
@@ -9,7 +9,7 @@ ghost use Rattle.disk_trait.specs.declared.disk.Area.TheVariants.{Oplog, Blocks 
 ghost use Rattle.core_disk.specs.Opened.{Opened, short_of, entry_after};
 ghost use Rattle.core_disk.specs.InHand.{opened_of, Agrees, NextRoots, HavePlaces};
 ghost use Rattle.core_disk.specs.Bringing.{part_of};
-ghost use Rattle.core_disk.specs.Plans.{laid, TornBy};
+ghost use Rattle.core_disk.specs.Plans.{bytes_in, calls_for, laid, TornBy};
 ghost use Rattle.core_disk.specs.Firm.{WritesChange};
 ghost use Rattle.core_disk.specs.Committing.{IsReady, TakesIn, IsCommitFault};
 ghost use Rattle.commit_book.specs.History.{entry_of, KeepsRoot};
@@ -53,7 +53,8 @@ pub(crate) fn commit_change<D: Disk>(
     ensures why { IfErr result (IsCommitFault file.old.used entry.now (opened_of store.old.hand)
         (D.disk store.old.disk) (D.disk store.new.disk)) }
     ensures quiet { IfErr result (λ fault. (fault ≡ StoreFault) ⊎ (store.new.disk ≡ store.old.disk)) }
-    ensures calls { Calls 4 (D.disk store.old.disk) (D.disk store.new.disk) result }
+    ensures calls { Calls (calls_for (bytes_in (part_of part.entry)) + 2)
+        (D.disk store.old.disk) (D.disk store.new.disk) result }
     ensures size { length scratch.new ≡ length scratch.old }
 {
     let roots = match store.ready(alloc, entry) {

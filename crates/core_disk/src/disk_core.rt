@@ -1,5 +1,5 @@
 //! A core over a disk.
-ghost use Rattle.std.specs.Prelude.{◌≡◌, ◌≤◌, ℕ, Some, Err, length, IsTrue, IfOk, true};
+ghost use Rattle.std.specs.Prelude.{◌≡◌, ◌≤◌, ℕ, Some, Err, length, IsTrue, IsSome, IfOk, true};
 ghost use Rattle.flat_tree.specs.declared.limits.TheConstants.{MAX_BLOCK_BYTES};
 ghost use Rattle.proof_form.specs.Requests.{RequestFits};
 ghost use Rattle.node_set.specs.declared.fault.CoreFault.TheVariants.{Broken};
@@ -120,6 +120,7 @@ impl<D: Disk, A: Signer> DiskCore<D, A> {
             (state_of D.disk A.accepts self.new) (Made (proof_in result)) }
         ensures leaves { OnlyReads D.disk self.old self.new }
         ensures broken { (count : ℕ) → self.old.broken ≡ Some count → result ≡ Err (Broken count) }
+        ensures quiet { IsSome self.old.broken → self.new.store.disk ≡ self.old.store.disk }
     {
         if let Some(count) = self.failed_at() {
             return Err(CoreFault::Broken { count });
@@ -135,6 +136,7 @@ impl<D: Disk, A: Signer> DiskCore<D, A> {
             (state_of D.disk A.accepts self.new) (Read (answer_in buf.new result)) }
         ensures leaves { OnlyReads D.disk self.old self.new }
         ensures broken { (count : ℕ) → self.old.broken ≡ Some count → result ≡ Err (Broken count) }
+        ensures quiet { IsSome self.old.broken → self.new.store.disk ≡ self.old.store.disk }
         ensures size { IfOk result (λ read. read.len ≤ MAX_BLOCK_BYTES) }
         ensures place { length buf.new ≡ length buf.old }
         ensures ends { ReadsBlock D.disk self.old self.new index buf.new result }
@@ -151,6 +153,7 @@ impl<D: Disk, A: Signer> DiskCore<D, A> {
             (state_of D.disk A.accepts self.new) (Number result) }
         ensures leaves { OnlyReads D.disk self.old self.new }
         ensures broken { (count : ℕ) → self.old.broken ≡ Some count → result ≡ Err (Broken count) }
+        ensures quiet { IsSome self.old.broken → self.new.store.disk ≡ self.old.store.disk }
     {
         if let Some(count) = self.failed_at() {
             return Err(CoreFault::Broken { count });
@@ -168,6 +171,7 @@ impl<D: Disk, A: Signer> DiskCore<D, A> {
             (state_of D.disk A.accepts self.new) (Bits (page_in out.new result)) }
         ensures leaves { OnlyReads D.disk self.old self.new }
         ensures broken { (count : ℕ) → self.old.broken ≡ Some count → result ≡ Err (Broken count) }
+        ensures quiet { IsSome self.old.broken → self.new.store.disk ≡ self.old.store.disk }
     {
         if let Some(count) = self.failed_at() {
             return Err(CoreFault::Broken { count });

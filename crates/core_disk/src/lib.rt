@@ -8,18 +8,12 @@ mod admitting;
 mod appending;
 mod block_laws;
 mod change_laws;
-#[cfg(test)]
-mod change_tests;
 mod changes;
 mod committing;
 mod copies;
-#[cfg(test)]
-mod core_tests;
 mod cutting;
 mod disk_core;
 mod filling;
-#[cfg(test)]
-mod fuse_tests;
 mod handing;
 mod in_range;
 mod laid_laws;
@@ -28,19 +22,13 @@ mod layout;
 mod nodes;
 mod offsets;
 mod opening;
-#[cfg(test)]
-mod part_tests;
 mod parts;
 mod plan_laws;
 mod putting;
 mod records;
 mod replay;
 mod store;
-#[cfg(test)]
-mod tests;
 mod viewing;
-#[cfg(test)]
-mod write_tests;
 mod writing;
 
 pub use block_laws::{

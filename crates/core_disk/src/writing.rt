@@ -10,7 +10,7 @@ ghost use Rattle.oplog_file.specs.Files.{File};
 ghost use Rattle.oplog_file.specs.Writers.{IsBehind, Stands, with_entry};
 ghost use Rattle.oplog_file.specs.Storing.{Calls};
 ghost use Rattle.core_disk.specs.Bringing.{part_of, Brings, FindsNoRoom};
-ghost use Rattle.core_disk.specs.Plans.{laid, TornBy};
+ghost use Rattle.core_disk.specs.Plans.{bytes_in, calls_for, laid, TornBy};
 ghost use Rattle.core_disk.specs.Firm.{WritesChange};
 
 use compact_enc::Encoder;
@@ -20,7 +20,7 @@ use node_set::CoreFault;
 use oplog_file::{MAX_ENTRIES_BYTES, OplogFile};
 use oplog_form::{Entry, MAX_ENTRY_BYTES, MAX_ENTRY_NODES, payloads_find_room, put_entry};
 
-/// Bytes that come into the blocks area, and where. No bytes are a write too.
+/// Bytes that come into the blocks area, and where.
 #[derive(Clone, Copy)]
 pub(crate) struct BlocksPart<'p> {
     pub(crate) at: u64,
@@ -59,7 +59,8 @@ pub(crate) fn write_change<D: Disk>(
 
     ensures fault { IfErr result (λ fault.
         (fault ≡ StoreFault) ⊎ (fault ≡ Limit EntriesBytes MAX_ENTRIES_BYTES)) }
-    ensures calls { Calls 4 (D.disk disk.old) (D.disk disk.new) result }
+    ensures calls { Calls (calls_for (bytes_in (part_of part.entry)) + 2)
+        (D.disk disk.old) (D.disk disk.new) result }
 {
     let len = spell(entry, scratch);
     if !file.fits(len) {
@@ -102,17 +103,21 @@ fn write_entry(entry: &Entry<'_>, into: &mut [u8]) -> usize
     to.place()
 }
 
-// Writes bytes to the blocks area and syncs it, if some come in.
+// Writes bytes to the blocks area and syncs it, where there are some: without a byte the disk isn't called.
 fn bring<D: Disk>(disk: &mut D, part: Option<BlocksPart<'_>>) -> Result<(), CoreFault>
     ensures brings { IsTrue (D.disk disk.old).honest
         → Brings (part_of part.entry) (D.disk disk.old) (D.disk disk.new) result }
-    ensures calls { Calls 2 (D.disk disk.old) (D.disk disk.new) result }
+    ensures calls { Calls (calls_for (bytes_in (part_of part.entry)))
+        (D.disk disk.old) (D.disk disk.new) result }
     ensures store { IfErr result (λ fault. fault ≡ StoreFault) }
 {
-    match part {
-        Some(part) => store_part(disk, part.at, part.bytes),
-        None => Ok(()),
+    let Some(part) = part else {
+        return Ok(());
+    };
+    if part.bytes.is_empty() {
+        return Ok(());
     }
+    store_part(disk, part.at, part.bytes)
 }
 
 fn store_part<D: Disk>(disk: &mut D, at: u64, bytes: &[u8]) -> Result<(), CoreFault>

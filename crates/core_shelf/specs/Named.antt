@@ -9,7 +9,7 @@ use Rattle.core_state.specs.Handing.{SameDisk, GoesOn}
 use Rattle.core_shelf.specs.declared.fault.ShelfFault.{ShelfFault}
 use Rattle.core_shelf.specs.declared.fault.ShelfFault.TheVariants.{Failed, Memory as ShelfMemory}
 use Rattle.core_shelf.specs.declared.fault.NamedFault.{NamedFault}
-use Rattle.core_shelf.specs.declared.fault.NamedFault.TheVariants.{Core}
+use Rattle.core_shelf.specs.declared.fault.NamedFault.TheVariants.{NoCore, CoreExists, Core}
 use Rattle.core_shelf.specs.Shelf.{ShelfView, Counts, Others, SamePlace}
 
 -- the key of the core of a name in the default namespace
@@ -58,7 +58,13 @@ pub record TakesOut {S C : Type 0} (disk : S → DiskView) (disk_of : C → Disk
   pub was : IsTrue old.honest → SameDisk (old.disk id) (disk store)
   pub out : IsTrue old.honest → new.out id ≡ true
 
--- the shelf failed, or memory was wanting, before a disk was out
+-- why an id isn't found unlisted: it is on the list, or the shelf failed
+abbrev pub RefusesListed : List ℕ → ShelfView → ShelfView → NamedFault → Type 0
+RefusesListed id old new CoreExists = IsTrue old.honest → old.marked id ≡ true
+RefusesListed id old new (Core fault) = (fault ≡ StoreFault) × Rose old.faults new.faults
+RefusesListed id old new NoCore = ⊥
+
+-- the shelf failed, or memory was wanting, and the id's disk is on the shelf as it was
 pub record FailsAtOnce (id : List ℕ) (old new : ShelfView) (fault : CoreFault) : Type 0 where
   pub why : (fault ≡ StoreFault) ⊎ (fault ≡ Memory)
   pub stays : IsTrue old.honest → Stays id old new

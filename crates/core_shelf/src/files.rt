@@ -24,12 +24,14 @@ pub struct FileDisk {
 }
 
 impl FileDisk {
-    /// The disk in this folder. A file that isn't there is made, and is empty.
+    /// The disk in this folder, unless another program has it. A file that isn't there is made, and is empty.
     pub fn open<R: Files<File = File>>(rt: &R, alloc: Global, folder: &str) -> io::Result<FileDisk>
         ensures calls { IfOk result (λ disk. (files_view_of disk).calls ≡ 0) }
         ensures faults { IfOk result (λ disk. (files_view_of disk).faults ≡ 0) }
     {
         let oplog = open_file(rt, alloc, folder, "oplog")?;
+        // The lock falls with the file, so also where the program is killed.
+        oplog.try_lock()?;
         let tree = open_file(rt, alloc, folder, "tree")?;
         let bits_a = open_file(rt, alloc, folder, "bits-a")?;
         let bits_b = open_file(rt, alloc, folder, "bits-b")?;

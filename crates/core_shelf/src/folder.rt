@@ -148,7 +148,18 @@ fn open_disk<R: Files<File = File>>(
 {
     let folder = folder_of(alloc, root, id)?;
     fs::create_dir_all(rt, folder.as_str())?;
-    FileDisk::open(rt, alloc, folder.as_str())
+    let disk = FileDisk::open(rt, alloc, folder.as_str())?;
+    // The program that made the mark may have been killed before the mark was durable.
+    if is_made(rt, alloc, folder.as_str())? {
+        sync_mark(rt, alloc, folder.as_str())?;
+    }
+    Ok(disk)
+}
+
+// Makes the mark in a folder durable, and makes it where it isn't there.
+fn sync_mark<R: Files<File = File>>(rt: &R, alloc: Global, folder: &str) -> io::Result<()> {
+    open_file(rt, alloc, folder, "made")?.sync_all()?;
+    sync_folder(rt, folder)
 }
 
 // Makes the names in a folder durable. No name is the folder that the program runs in.
@@ -170,8 +181,7 @@ fn make_mark<R: Files<File = File>>(
     if let Some(parent) = Path::new(root).parent() {
         sync_folder(rt, parent.as_str())?;
     }
-    open_file(rt, alloc, folder.as_str(), "made")?.sync_all()?;
-    sync_folder(rt, folder.as_str())
+    sync_mark(rt, alloc, folder.as_str())
 }
 
 impl<R: Files<File = File> + AllocGlobal + Clone + Drop> Shelf for FolderShelf<R> {

@@ -16,8 +16,3 @@ pub use folder::FolderShelf;
 pub use memory::MemShelf;
 pub use named::{close_named, make_named, open_named};
 pub use shelf::{IdList, Shelf};
-
-#[cfg(test)]
-mod named_tests;
-#[cfg(test)]
-mod tests;

@@ -1,8 +1,8 @@
 //! Cores by their names.
-ghost use Rattle.std.specs.Prelude.{◌≡◌, false, true, IsTrue, OnOk};
+ghost use Rattle.std.specs.Prelude.{◌≡◌, false, true, IsTrue, OnOk, IfErr};
 ghost use Rattle.node_set.specs.declared.fault.CoreFault.TheVariants.{StoreFault};
-ghost use Rattle.core_shelf.specs.Shelf.{Counts, KeepsList, Others, CountsIn, Gives};
-ghost use Rattle.core_shelf.specs.Named.{key_of, id_of, core_fault_of, IsHome, CallsFor, Stays, Opens, Makes, RefusesOr, IsRefused};
+ghost use Rattle.core_shelf.specs.Shelf.{Counts, KeepsOut, KeepsList, KeepsDisks, Others, CountsIn, Gives};
+ghost use Rattle.core_shelf.specs.Named.{key_of, id_of, core_fault_of, IsHome, CallsFor, Stays, RefusesListed, Opens, Makes, RefusesOr, IsRefused};
 
 use crate::fault::{NamedFault, ShelfFault};
 use crate::shelf::Shelf;
@@ -75,8 +75,28 @@ fn core_fault(fault: ShelfFault) -> CoreFault
     }
 }
 
+// Refuses an id that is on the list.
+fn refuse_listed<H: Shelf>(shelf: &mut H, id: &[u8; 32]) -> Result<(), NamedFault>
+    ensures counts { Counts (H.shelf shelf.old) (H.shelf shelf.new) }
+    ensures out { KeepsOut (H.shelf shelf.old) (H.shelf shelf.new) }
+    ensures ok { IsTrue (H.shelf shelf.old).honest
+        → OnOk result ((H.shelf shelf.old).marked id.now ≡ false) }
+    ensures err { IfErr result (RefusesListed id.now (H.shelf shelf.old) (H.shelf shelf.new)) }
+    ensures list { IsTrue (H.shelf shelf.old).honest
+        → KeepsList (H.shelf shelf.old) (H.shelf shelf.new) }
+    ensures disks { IsTrue (H.shelf shelf.old).honest
+        → KeepsDisks (H.shelf shelf.old) (H.shelf shelf.new) }
+{
+    match shelf.has(id) {
+        Ok(false) => Ok(()),
+        Ok(true) => Err(NamedFault::CoreExists),
+        Err(Failed) => Err(NamedFault::Core(CoreFault::StoreFault)),
+    }
+}
+
 /// Makes the core of a name in the default namespace, and then puts it on the list. With Ok its disk is out of the shelf,
-/// in the core; with a fault it is on the shelf. A fault of the list comes before `CoreExists`.
+/// in the core; with a fault it is on the shelf. A fault of the list comes before `CoreExists`. Where the id is on the
+/// list, nothing is changed.
 pub fn make_named<X: OpenCore<H::Store, K::Auth>, H: Shelf, K: Keys>(
     alloc: Global,
     shelf: &mut H,
@@ -95,6 +115,9 @@ pub fn make_named<X: OpenCore<H::Store, K::Auth>, H: Shelf, K: Keys>(
     ensures core_exists { let id = id_of (K.public_of keys.now) primary.now name.now in
         IsTrue (H.shelf shelf.old).honest
         → IsRefused NamedFault.CoreExists ((H.shelf shelf.old).marked id ≡ true) result }
+    ensures kept { let id = id_of (K.public_of keys.now) primary.now name.now in
+        IsTrue (H.shelf shelf.old).honest → (H.shelf shelf.old).marked id ≡ true
+        → Stays id (H.shelf shelf.old) (H.shelf shelf.new) }
     ensures marked { let id = id_of (K.public_of keys.now) primary.now name.now in
         IsTrue (H.shelf shelf.old).honest → OnOk result ((H.shelf shelf.new).marked id ≡ true) }
     ensures list { let id = id_of (K.public_of keys.now) primary.now name.now in
@@ -104,15 +127,18 @@ pub fn make_named<X: OpenCore<H::Store, K::Auth>, H: Shelf, K: Keys>(
         CallsFor (NamedFault.Core StoreFault) id (H.shelf shelf.old) (H.shelf shelf.new) result }
 {
     let (key, id) = key_and_id(keys, primary, name);
-    match shelf.has(&id) {
-        Ok(false) => {}
-        Ok(true) => return Err(NamedFault::CoreExists),
-        Err(Failed) => return Err(NamedFault::Core(CoreFault::StoreFault)),
+    if let Err(fault) = refuse_listed(shelf, &id) {
+        return Err(fault);
     }
     let disk = match shelf.take_disk(alloc, &id) {
         Ok(disk) => disk,
         Err(fault) => return Err(NamedFault::Core(core_fault(fault))),
     };
+    // Another program may have made the core before this one had its disk.
+    if let Err(fault) = refuse_listed(shelf, &id) {
+        shelf.give_disk(&id, disk);
+        return Err(fault);
+    }
     let core = match X::make_new(alloc, disk, &id, keys.auth(&key)) {
         Ok(core) => core,
         Err((fault, disk)) => {

@@ -14,7 +14,7 @@ use Rattle.hypercore_cli.specs.Appends.{Commits, AppendsTo, closed_by, opened_by
 use Rattle.hypercore_cli.specs.declared.batches.AppendFault.TheVariants.{ReadFault, TooLong as LineTooLong, Core}
 use Rattle.hypercore_cli.proofs.BatchLemmas.{HasCut, HasCut-none, HasCut-line, HasCut-end, HasCut-closed, all_first}
 use Rattle.hypercore_cli.proofs.CommitLaws.{Grows-length, Commits-none, Commits-then, Commits-no_memory}
-use Rattle.hypercore_cli.proofs.LogReads.{Calls}
+use Rattle.outside_traits.specs.LineCalls.{Calls}
 use Rattle.hypercore_cli.proofs.LineReads.{Meets, Meets-none, Meets-next, ReadsAll-end, HasMet-refused, HasTaken-now, AreFirst-now}
 
 module _ {D A : Type 0} (disk : D → DiskView) (accepts : A → List ℕ → List ℕ → Bool) where
@@ -99,8 +99,8 @@ module _ {D A : Type 0} (disk : D → DiskView) (accepts : A → List ℕ → Li
     -- the read failed
     pub AppendsTo-failed : Calls now next_source lines next (Err Failed) → AppendsTo disk accepts first next_source core mid (Err ReadFault)
     AppendsTo-failed calls =
-        let cut_off = calls.call.hands in (
-          omega (arith, appends.meets.faults, calls.cause.rose refl),
+        let cut_off = calls.lines.hands in (
+          omega (arith, appends.meets.faults, calls.cause.failed refl),
           appends.met,
           next.ahead,
           HasMet-refused first now next_source lines next appends.met appends.meets (Err Failed) appends.closed batch calls cut_off.ahead appends.cut,
@@ -111,8 +111,8 @@ module _ {D A : Type 0} (disk : D → DiskView) (accepts : A → List ℕ → Li
     -- the line is too long
     pub AppendsTo-long : Calls now next_source lines next (Err TooLong) → AppendsTo disk accepts first next_source core mid (Err LineTooLong)
     AppendsTo-long calls =
-        let long = calls.call.hands in
-        let before = lines.ahead ++ calls.call.read in
+        let long = calls.lines.hands in
+        let before = lines.ahead ++ calls.lines.read in
         let max : next.max ≡ MAX_BLOCK_BYTES = calls.max ∙ appends.meets.max in (
           appends.met,
           next.ahead,

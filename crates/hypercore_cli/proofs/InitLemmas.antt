@@ -18,7 +18,7 @@ use Rattle.core_shelf.specs.Shelf.{ShelfView, Gives}
 use Rattle.core_shelf.specs.Named.{Stays, TakesOut, Makes, RefusesOr, IsRefused}
 use Rattle.hypercore_cli.specs.Faults.{named_end}
 use Rattle.hypercore_cli.specs.Cores.{NamedCore, WasUnlisted}
-use Rattle.hypercore_cli.specs.Inits.{IsNew, MayBeNew, RefusesInit}
+use Rattle.hypercore_cli.specs.Inits.{IsNew, MayBeNew, KeepsListed, RefusesInit}
 use Rattle.hypercore_cli.proofs.OpenedCores.{err_same}
 
 module _ {D A : Type 0} (disk : D → DiskView) (authority : A → List ℕ → List ℕ → Bool) (c : NamedCore)
@@ -70,14 +70,14 @@ module _ {D A : Type 0} (disk : D → DiskView) (authority : A → List ℕ → 
       → RefusesOr {C = Cored D A} CoreExists (IsTrue c.old.honest → Stays c.id c.old c.new)
       (Makes disk (disk_under disk) (IsMadeOn disk authority c.accepts c.id) (λ old f new. IsMakeFault f) c.id c.old c.new) (Err fault)
       → (IsTrue c.old.honest → IsRefused {C = Cored D A} CoreExists (c.old.marked c.id ≡ true) (Err fault))
-      → (IsErrOf {T = Cored D A} (Err fault) (Core StoreFault) → Rose c.old.faults c.new.faults) → RefusesInit c (named_end fault)
-  refuses_init NoCore told refused cause = let never = told.0 in absurd cc
-  refuses_init CoreExists told refused cause = (λ honest. ((refused honest).0 refl).0, told.1)
-  refuses_init (Core fault) told refused cause = elim (makes_why fault told) [
+      → (IsErrOf {T = Cored D A} (Err fault) (Core StoreFault) → Rose c.old.faults c.new.faults) → KeepsListed c → RefusesInit c (named_end fault)
+  refuses_init NoCore told refused cause kept = let never = told.0 in absurd cc
+  refuses_init CoreExists told refused cause kept = (λ honest. ((refused honest).0 refl).0, told.1)
+  refuses_init (Core fault) told refused cause kept = elim (makes_why fault told) [
     | inl memory ↦ subst (λ f. RefusesInit c (named_end (Core f))) (sym memory) (
       unlisted (Core Memory) (λ e. cc) (λ e. cc) (subst (λ f. IsTrue c.old.honest → IsRefused {C = Cored D A} CoreExists (c.old.marked c.id ≡ true) (Err (Core f))) memory refused),
       may_be_new fault told,
     )
     | inr store ↦ subst (λ f. RefusesInit c (named_end (Core f))) (sym store)
-        (cause (subst (λ f. IsErrOf {T = Cored D A} (Err (Core f)) (Core StoreFault)) (sym store) refl), may_be_new fault told)
+        (cause (subst (λ f. IsErrOf {T = Cored D A} (Err (Core f)) (Core StoreFault)) (sym store) refl), may_be_new fault told, kept)
   ]

@@ -3,7 +3,7 @@ use Rattle.std.proofs.Common.{◌≡◌, ℕ, ◌≤◌, Bool, true, false, IsTr
 use Rattle.std.proofs.KnownBytes.{Consumes-trans}
 use Rattle.outside_traits.specs.Streams.{SourceView}
 use Rattle.outside_traits.specs.Lines.{LinesView, lines_of, WantsMore}
-use Rattle.outside_traits.specs.LineCalls.{NextLine, Ends, CountsFaults, IsWanted}
+use Rattle.outside_traits.specs.LineCalls.{Ends, Calls, IsWanted}
 use Rattle.outside_traits.specs.declared.lines.LineFault.{LineFault}
 use Rattle.outside_traits.specs.declared.lines.LineFault.TheVariants.{TooLong}
 use Rattle.outside_traits.proofs.LineLemmas.{lines_of-too_long, Ends-kept}
@@ -30,22 +30,14 @@ pub record HasMet (first now : SourceView) (lines : LinesView) (log met : List (
 abbrev pub HasLog : SourceView → SourceView → LinesView → List (List ℕ) → Type 0
 HasLog first now lines log = HasMet first now lines log log
 
--- what a call for the next line does
-pub record Calls (now next_source : SourceView) (lines next : LinesView) (answer : Result Bool LineFault) : Type 0 where
-  pub call : NextLine now next_source lines next answer
-  pub max : next.max ≡ lines.max
-  pub idle : WantsMore lines ⊎ (next_source ≡ now)
-  pub ends : Ends next_source lines next
-  pub cause : CountsFaults now next_source answer
-
 -- one more line was met
 pub HasMet-next : (first now next_source : SourceView) (lines next : LinesView) (log : List (List ℕ)) → HasLog first now lines log → Calls now next_source lines next (Ok true)
     → HasMet first next_source next log (log ++ next.line ∷ []) × (length next.line ≤ MAX_BLOCK_BYTES)
 HasMet-next first now next_source lines next log has calls =
     let max : next.max ≡ MAX_BLOCK_BYTES = calls.max ∙ has.max in
-    let taken = calls.call.hands in (
+    let taken = calls.lines.hands in (
       record {
-        so_far = LinesSoFar-next first now next_source fresh_lines lines next log has.so_far calls.call calls.ends calls.idle;
+        so_far = LinesSoFar-next first now next_source fresh_lines lines next log has.so_far calls;
         faults = omega (arith, has.faults, calls.cause.kept);
         max = max;
         fits = has.fits;
@@ -63,7 +55,7 @@ HasLog-added first now lines log log_now has added =
 pub IsLogOf-end : (first now next_source : SourceView) (lines next : LinesView) (log : List (List ℕ)) → HasLog first now lines log → Calls now next_source lines next (Ok false)
     → IsLogOf first next_source log
 IsLogOf-end first now next_source lines next log has calls =
-    let all = LinesSoFar-end first now next_source fresh_lines lines next log has.so_far calls.call calls.ends calls.idle in
+    let all = LinesSoFar-end first now next_source fresh_lines lines next log has.so_far calls in
     (all.read, record { told = all.left; at_end = all.at_end; fits = ap (limit_in 0 0) (sym all.lines) ∙ has.fits }, all.lines)
 
 -- behind an end nothing is read, and nothing follows
@@ -76,18 +68,18 @@ none_behind_end lines next source read left (inr more) ends may ended = absurd (
 pub PassesLimit-too_long : (first now next_source : SourceView) (lines next : LinesView) (log : List (List ℕ)) → HasLog first now lines log
     → Calls now next_source lines next (Err TooLong) → PassesLimit first next_source Block MAX_BLOCK_BYTES
 PassesLimit-too_long first now next_source lines next log has calls =
-    let read = calls.call.read in (
+    let read = calls.lines.read in (
       has.so_far.read ++ read,
       next.ended,
       record {
-        told = Consumes-trans _ _ _ has.so_far.read read has.so_far.left calls.call.reads.left;
-        at_end = Ends-kept now next_source lines next has.so_far.at_end calls.ends calls.idle;
+        told = Consumes-trans _ _ _ has.so_far.read read has.so_far.left calls.lines.reads.left;
+        at_end = Ends-kept now next_source lines next has.so_far.at_end calls.ended calls.idle;
       },
       λ left may.
-          let begins = lines_of-too_long (lines.ahead ++ read) left next calls.call.hands in
+          let begins = lines_of-too_long (lines.ahead ++ read) left next calls.lines.hands in
           let all : lines_of ((has.so_far.read ++ read) ++ left) ≡ log ++ begins.first ∷ begins.others =
           ap lines_of (append_assoc has.so_far.read read left)
-          ∙ has.so_far.lines (read ++ left) (none_behind_end lines next next_source read left calls.call.reads.wanted calls.ends may)
+          ∙ has.so_far.lines (read ++ left) (none_behind_end lines next next_source read left calls.lines.reads.wanted calls.ended may)
           ∙ ap (λ l. log ++ lines_of l) (sym (append_assoc lines.ahead read left)) ∙ ap (λ l. log ++ l) begins.is in
           ap (limit_in 0 0) all ∙ limit_in-block log begins.first begins.others has.fits (omega (arith, begins.long, calls.max, has.max)),
     )

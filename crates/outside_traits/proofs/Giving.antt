@@ -1,5 +1,5 @@
 -- What a source over a list does when it gives the next bytes of it.
-use Rattle.std.proofs.Common.{◌≡◌, ℕ, ◌+◌, ◌-◌, ◌≤◌, List, ◌++◌, length, take, drop, min, Ok, sym, ap, ◌∙◌, arith, take-append-drop, length-append, length-drop}
+use Rattle.std.proofs.Common.{◌≡◌, ℕ, ◌+◌, ◌-◌, ◌≤◌, List, ◌++◌, length, take, drop, min, Ok, refl, sym, ap, ◌∙◌, arith, take-append-drop, length-append, length-drop}
 use Rattle.std.proofs.lemmas.List.{length-take-le, drop_all}
 use Rattle.std.proofs.Math.Seq.{take-add, drop-drop, take_at}
 use Rattle.outside_traits.specs.Streams.{SourceView, Reads}
@@ -33,5 +33,5 @@ Reads-gives bytes into piece at n h =
         sym (take-append-drop n rest) ∙ ap (λ l. l ++ drop n rest) (sym (front ∙ h.piece_is)) ∙ ap (λ l. take n (piece ++ drop n into) ++ l) more,
         λ none some. sym more ∙ drop_all n rest (omega (arith, h.count, none, some, size)),
       );
-      cause = record { kept = omega arith; rose = λ e. cc };
+      faults = record { kept = omega arith; one = refl };
     }

@@ -6,5 +6,6 @@ pub mod LinesSoFar
 mod Lying
 mod Reading
 mod Refilling
+mod Retrying
 mod StandardFacts
 mod Writing

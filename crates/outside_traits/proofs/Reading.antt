@@ -3,6 +3,7 @@ use Rattle.std.proofs.Common.{◌≡◌, ◌≢◌, ℕ, ◌+◌, ◌-◌, ◌�
 use Rattle.std.proofs.Math.Seq.{take-append_seam}
 use Rattle.std.proofs.lemmas.List.Elements.{All-take}
 use Rattle.std.specs.Io.KnownBytes.{IsAtEnd}
+use Rattle.std.specs.Result.{is_err}
 use Rattle.std.proofs.KnownBytes.{Appends-nil, Consumes-nil, Appends-trans, Consumes-trans}
 use Rattle.outside_traits.specs.Streams.{SourceView}
 use Rattle.outside_traits.specs.Lines.{LinesView, HasNoFeed, IsOpen, WantsMore, HandsOut, line_feed}
@@ -18,7 +19,11 @@ pub record HasReadAhead (old_source new_source : SourceView) (old new : LinesVie
   pub max : new.max ≡ old.max
   pub idle : WantsMore old ⊎ (new_source ≡ old_source)
   pub ends : Ends new_source old new
-  pub kept : old_source.faults ≤ new_source.faults
+
+-- the same, and no fault came
+pub record GoesOnReading (old_source new_source : SourceView) (old new : LinesView) : Type 0 where
+  pub so_far : HasReadAhead old_source new_source old new
+  pub same : new_source.faults ≡ old_source.faults
 
 -- how many bytes at most are still to be read for this line, and one for the end
 abbrev pub still_wanted : LinesView → ℕ
@@ -38,7 +43,6 @@ HasReadAhead-start source lines = record {
   max = refl;
   idle = inr refl;
   ends = record { kept = λ ended. ended; at_end = λ ended. inl ended };
-  kept = omega arith;
 }
 
 -- the front of what may go on may go on
@@ -108,8 +112,17 @@ HasReadAhead-more source now_source next_source old now mid next answer so_far s
         kept = λ ended. grind (arith, first.not_ended, ended);
         at_end = λ ended. inr (end_is_new mid next next_source answer more wants.not_ended ended);
       };
-      kept = omega (arith, so_far.kept, more.cause.kept);
     }
+
+-- one more read that didn't fail
+pub GoesOnReading-more : {E : Type 0} (source now_source next_source : SourceView) (old now mid next : LinesView) (answer : Result (Unit {0}) E)
+    → GoesOnReading source now_source old now → SameAhead now mid → WantsMore mid → ReadsMore now_source next_source mid next answer → is_err answer ≡ false
+    → GoesOnReading source next_source old next
+GoesOnReading-more source now_source next_source old now mid next (Ok u) goes same wants more ok = record {
+  so_far = HasReadAhead-more source now_source next_source old now mid next (Ok u) goes.so_far same wants more;
+  same = more.faults.one ∙ goes.same;
+}
+GoesOnReading-more source now_source next_source old now mid next (Err e) goes same wants more ok = cc
 
 less_wanted : (mid next : LinesView) (read : List ℕ) (source : SourceView) → mid.ended ≡ false → length mid.ahead ≤ mid.max
     → next.ahead ≡ mid.ahead ++ read → next.max ≡ mid.max

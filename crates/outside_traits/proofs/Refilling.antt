@@ -69,7 +69,7 @@ ReadsMore-ok old_source new_source place now start end from to searched max coun
         wants.goes_on.within,
       )) moved.reads.within moved.reads.left.1;
   failed = λ e. cc;
-  cause = record { kept = moved.reads.cause.kept; rose = λ e. cc };
+  faults = record { kept = moved.reads.faults.kept; one = moved.reads.faults.one };
 }
 
 pub ReadsMore-failed : {E : Type 0} (old_source new_source : SourceView) (place now : List ℕ) (start end from to max : ℕ) (ended : Bool) (e : E)
@@ -84,5 +84,5 @@ ReadsMore-failed old_source new_source place now start end from to max ended e m
   max = refl;
   ok = tt;
   failed = λ _. (refl, refl);
-  cause = record { kept = moved.reads.cause.kept; rose = moved.reads.cause.rose };
+  faults = record { kept = moved.reads.faults.kept; one = moved.reads.faults.one };
 }

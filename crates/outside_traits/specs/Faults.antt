@@ -14,6 +14,8 @@ pub record HasCause {T E : Type 0} (before now : ℕ) (answer : Result T E) : Ty
   pub kept : before ≤ now
   pub rose : IsErr answer → Rose before now
 
--- a fault was added with an Err, and none with an Ok
-abbrev pub CountsFault : {T E : Type 0} → ℕ → ℕ → Result T E → Type 0
-CountsFault before now answer = MatchResult answer (λ _. now ≡ before) (λ _. now ≡ count_fault before)
+-- One fault was added with an Err, and none with an Ok: a call that made another after a failed one, which may fail too, can't keep this.
+-- The count didn't fall.
+pub record CountsFault {T E : Type 0} (before now : ℕ) (answer : Result T E) : Type 0 where
+  pub kept : before ≤ now
+  pub one : MatchResult answer (λ _. now ≡ before) (λ _. now ≡ count_fault before)

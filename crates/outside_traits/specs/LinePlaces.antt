@@ -1,7 +1,7 @@
 -- How a reader of lines keeps its bytes in one place, and reads more.
 use Rattle.std.specs.Prelude.{◌≡◌, ◌≢◌, ℕ, ◌+◌, ◌-◌, ◌^◌, ◌≤◌, ◌<◌, Bool, false, IsTrue, List, [], ◌++◌, length, take, drop, slice_index, slice_range, Result, IfOk, IsErr, ◌⊎◌}
 use Rattle.std.specs.Io.KnownBytes.{Appends, Consumes, IsAtEnd}
-use Rattle.outside_traits.specs.Faults.{HasCause}
+use Rattle.outside_traits.specs.Faults.{CountsFault}
 use Rattle.outside_traits.specs.Streams.{SourceView, Reads}
 use Rattle.outside_traits.specs.Lines.{LinesView, HasNoFeed, line_feed}
 
@@ -49,4 +49,4 @@ pub record ReadsMore {E : Type 0} (old_source new_source : SourceView) (old new 
   pub max : new.max ≡ old.max
   pub ok : IfOk answer (λ _. GoesOn read new new_source)
   pub failed : IsErr answer → (read ≡ []) × (new.ended ≡ old.ended)
-  pub cause : HasCause old_source.faults new_source.faults answer
+  pub faults : CountsFault old_source.faults new_source.faults answer

@@ -6,6 +6,7 @@
 mod auth;
 mod blob;
 mod blobs;
+mod calls;
 mod failed;
 mod lines;
 mod memory;
@@ -14,14 +15,12 @@ mod sink;
 mod source;
 mod standard;
 mod sure;
-#[cfg(test)]
-mod tests;
 
 pub use auth::{Keys, PlainAuth, Signer, Verifier};
 pub use blob::Blob;
 pub use blobs::Blobs;
 pub use failed::{Failed, Memory};
-pub use lines::{LineFault, Lines};
+pub use lines::{LineFault, Lines, all_lines_are_met};
 pub use memory::{MemSink, MemSource};
 pub use plan::Plan;
 pub use sink::{Sink, write_all};

@@ -1,7 +1,9 @@
 //! A reader of lines: one line of a source after the other, in memory that is taken once.
-ghost use Rattle.std.specs.Prelude.{◌≡◌, ◌≢◌, ◌≤◌, ◌<◌, ◌+◌, ◌-◌, ◌^◌, ◌⊎◌, [], false, None, Err, IfOk, IfSome, length, take, drop, slice_index, slice_range};
+ghost use Rattle.std.specs.Prelude.{◌≡◌, ◌≢◌, ◌≤◌, ◌<◌, ◌+◌, ◌-◌, ◌^◌, ◌⊎◌, ℕ, List, [], false, None, Err, IfOk, IfSome, IsTrue, length, take, drop, slice_index, slice_range};
 ghost use Rattle.outside_traits.specs.Lines.{LinesView, HasNoFeed, WantsMore, HandsOut, line_feed};
-ghost use Rattle.outside_traits.specs.LineCalls.{NextLine, Ends, CountsFaults};
+ghost use Rattle.std.specs.Io.KnownBytes.{IsAtEnd};
+ghost use Rattle.outside_traits.specs.Streams.{SourceView};
+ghost use Rattle.outside_traits.specs.LineCalls.{NextLine, Ends, CountsFaults, Meets, AllLines};
 ghost use Rattle.outside_traits.specs.LinePlaces.{EndsAt, Lies, ReadsBehind, ReadsMore, lines_view_of};
 
 use crate::failed::{Failed, Memory};
@@ -182,6 +184,14 @@ impl Lines {
         }
     }
 }
+
+/// The lines that calls of `next` give in turn, up to the one that gives none, are all lines of what was ahead and of
+/// what the source had left. Nothing runs.
+pub fn all_lines_are_met()
+    ensures { (source last : SourceView) (lines : LinesView) (met : List (List ℕ))
+        → (IsTrue lines.ended → IsAtEnd source.left) → Meets source lines met last
+        → AllLines source last lines met }
+{}
 
 fn zeros(alloc: Global, len: usize) -> Result<Vec<u8>, Memory>
     ensures { IfOk result (λ place. length place.items ≡ len) }

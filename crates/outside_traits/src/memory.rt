@@ -1,6 +1,6 @@
 //! A source and a sink in memory, whose calls can be made to fail.
 ghost use Rattle.std.specs.Prelude.{◌≡◌, ◌≤◌, ◌<◌, ◌-◌, ◌⊎◌, ◌↔◌, ℕ, List, [], Ok, IsErr, IfOk, Contains, take, drop, length, vec_capacity, min};
-ghost use Rattle.outside_traits.specs.Faults.{count_fault, CountsFault};
+ghost use Rattle.outside_traits.specs.Faults.{count_fault};
 ghost use Rattle.outside_traits.specs.Streams.{Reads, Writes};
 ghost use Rattle.outside_traits.specs.Memory.{MemSourceView, source_view_of, MemSinkView, sink_view_of};
 
@@ -64,7 +64,6 @@ impl Source for MemSource {
         ensures planned { self.new.planned ≡ self.old.planned }
         ensures made { self.new.made ≡ count_fault self.old.made }
         ensures most { IfOk result (λ n. n ≡ min (length into.old) (length self.old.left)) }
-        ensures faults { CountsFault self.old.faults self.new.faults result }
     {
         if self.plan.next() {
             return Err(self.plan.fail());
@@ -141,7 +140,6 @@ impl Sink for MemSink {
         ensures room { self.new.room ≡ self.old.room }
         ensures planned { self.new.planned ≡ self.old.planned }
         ensures made { self.new.made ≡ count_fault self.old.made }
-        ensures faults { CountsFault self.old.faults self.new.faults result }
     {
         if self.plan.next() {
             return Err(self.plan.fail());

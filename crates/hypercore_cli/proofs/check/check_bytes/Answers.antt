@@ -1,4 +1,4 @@
-use Rattle.std.proofs.Common.{refl}
+use Rattle.hypercore_cli.proofs.BundleReads.{count_rose}
 use Rattle.hypercore_cli.proofs.Verifiers.{IsProved-same}
 use Rattle.hypercore_cli.proofs.check.check_bytes.Goals as goal
 
@@ -11,7 +11,7 @@ returns-in-Ok-write_all g c = (
 
 pub returns-in-Ok : goal.returns-in-Ok
 returns-in-Ok g c = (
-  c.in-Err.ensures.all.cause.rose refl,
+  count_rose _ _ c.in-Err.ensures.all.faults.one,
   c.in-Ok.opened,
   IsProved-same _ _ c.args.bytes.now c.in-Ok.opened c.auth.ensures c.in-Ok.ensures.checks c.in-Ok.ensures.sound,
   c.in-Err.ensures.all.holds,

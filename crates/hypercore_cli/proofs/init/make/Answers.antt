@@ -12,4 +12,4 @@ pub returns-in-Err-clause-makes : goal.returns-in-Err-clause-makes
 returns-in-Err-clause-makes g c =
     let core = core_of (g.K.Keys.key_accepts c.args.keys.now) (g.K.Keys.public_of c.args.keys.now) c.args.key.now c.args.name.now (g.H.Shelf.shelf c.args.shelf.now) (g.H.Shelf.shelf c.make_named-made.new.shelf) in
     rw c.named_end.ensures (refuses_init _ _ core (λ honest. g.met.H.Shelf.tells c.args.shelf.now honest core.id) (g.met.H.Store.Disk g.world.𝓛 g.world.𝓜 g.world.𝓡 ((λ s x. x), (λ x. x), (λ x. x), λ x. x)).may_stay
-    c.in-Err.fault c.in-Err.ensures.makes c.in-Err.ensures.core_exists c.in-Err.ensures.calls.cause)
+    c.in-Err.fault c.in-Err.ensures.makes c.in-Err.ensures.core_exists c.in-Err.ensures.calls.cause c.in-Err.ensures.kept)

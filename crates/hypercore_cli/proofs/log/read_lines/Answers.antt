@@ -7,13 +7,13 @@ pub returns-in-Ok-false : goal.returns-in-Ok-false
 returns-in-Ok-false g c =
     let e = rw c.in-Ok-false.field-0-test at c.in-Ok-false.ensures in
     IsLogOf-end _ _ _ c.loop-log.lines c.next.new.self c.loop-log.log c.loop-log.invariant
-    (record { call = e.lines; max = e.max; idle = e.idle; ends = e.ended; cause = e.cause })
+    (record { lines = e.lines; max = e.max; idle = e.idle; ended = e.ended; cause = e.cause })
 
 pub returns-in-Err-TooLong : goal.returns-in-Err-TooLong
 returns-in-Err-TooLong g c =
     let e = rw c.in-Err-TooLong.field-0-is at c.in-Err-TooLong.ensures in
     PassesLimit-too_long _ _ _ c.loop-log.lines c.next.new.self c.loop-log.log c.loop-log.invariant
-    (record { call = e.lines; max = e.max; idle = e.idle; ends = e.ended; cause = e.cause })
+    (record { lines = e.lines; max = e.max; idle = e.idle; ended = e.ended; cause = e.cause })
 
 pub loop-log-smaller : goal.loop-log-smaller
 loop-log-smaller g c =
@@ -24,12 +24,12 @@ pub loop-log-preserved : goal.loop-log-preserved
 loop-log-preserved g c =
     let e = rw c.in-Ok-true.field-0-test at c.in-Ok-true.ensures in
     let met = HasMet-next _ _ _ c.loop-log.lines c.next.new.self c.loop-log.log c.loop-log.invariant
-    (record { call = e.lines; max = e.max; idle = e.idle; ends = e.ended; cause = e.cause }) in
+    (record { lines = e.lines; max = e.max; idle = e.idle; ended = e.ended; cause = e.cause }) in
     HasLog-added _ _ c.next.new.self c.loop-log.log c.add_line.new.log met.0 (rw c.line.ensures at c.in-Ok.ensures)
 
 pub returns-in-Err : goal.returns-in-Err
 returns-in-Err g c =
     let e = rw c.in-Ok-true.field-0-test at c.in-Ok-true.ensures in
     let met = HasMet-next _ _ _ c.loop-log.lines c.next.new.self c.loop-log.log c.loop-log.invariant
-    (record { call = e.lines; max = e.max; idle = e.idle; ends = e.ended; cause = e.cause }) in
+    (record { lines = e.lines; max = e.max; idle = e.idle; ended = e.ended; cause = e.cause }) in
     Refuses-met _ _ c.next.new.self c.loop-log.log c.in-Err.outcome met.0 (rw c.line.ensures at c.in-Err.ensures)

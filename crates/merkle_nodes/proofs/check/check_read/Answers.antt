@@ -27,8 +27,8 @@ returns g c =
         fork = refl;
         blocks = refl;
         index = refl;
-        ordered = omega arith;
-        within = omega arith;
+        end = refl;
+        start = omega (arith, block_within b c.args.bytes.now c.requires);
         block = block_found b c.args.bytes.now c.requires;
       },
     )

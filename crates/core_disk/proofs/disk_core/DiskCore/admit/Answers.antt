@@ -1,6 +1,9 @@
-use Rattle.std.proofs.Common.{sym, refl, ◌∙◌}
+use Rattle.std.proofs.Common.{◌≡◌, ℕ, ◌+◌, List, sym, ap, subst, refl, ◌∙◌}
 use Rattle.core_state.specs.Events.Event.{Admit}
+use Rattle.oplog_file.specs.Storing.{Calls}
 use Rattle.core_disk.specs.Bringing.{part_of}
+use Rattle.core_disk.specs.Plans.{bytes_in, calls_for, brought_by}
+use Rattle.core_disk.specs.Stored.{Stored, content_of}
 use Rattle.core_disk.proofs.ChangePlansMade.{admit_refused, admit_rests, admit_plan}
 use Rattle.core_disk.proofs.ChangeActs.{broken_does, rests_does, refused_does, given_does}
 use Rattle.core_disk.proofs.disk_core.DiskCore.admit.Goals as goal
@@ -51,6 +54,9 @@ returns g c =
     let change = c.commit_change-done in
     let made = change.ensures in
     let told = c.told.ensures in
+    let brings : bytes_in part ≡ bytes_in (brought_by c.args.prepared.now (content_of (g.D.Disk.disk c.self.inside.store.disk) c.self.inside.store.hand)) =
+    ap bytes_in c.brought-part.ensures ∙ c.in-Ok.ensures.bytes
+    ∙ ap (λ (s : Stored _). bytes_in (brought_by c.args.prepared.now (content_of (g.D.Disk.disk s.disk) s.hand))) c.nodes-nodes.ensures.store in
     let does = given_does g.D.Disk.disk g.A.Verifier.accepts (Admit c.args.prepared.now) _ c.args.self.now c.self.view_is
     c.failed_at.ensures.kept c.failed_at.ensures.rooted (sym c.failed_at.ensures.broken ∙ c.in_default.is) (λ old new fault why. why) g.met.D.Disk.may_stay
     (record { commit = commit; head = planned.change.head; records = c.of.result })
@@ -59,6 +65,12 @@ returns g c =
     commit c.in-Some-commit.is c.of.result (c.of.ensures ∙ c.as_slice.ensures.items) part c.brought-part.ensures)
     change.result change.new.store change.new.file
     (record { takes = made.takes; writes = made.writes; behind = made.behind; torn = made.torn; laid_is = made.laid })
-    (record { err = made.err; why = made.why; quiet = made.quiet; calls = made.calls })
+    (record {
+      err = made.err;
+      why = made.why;
+      quiet = made.quiet;
+      calls = subst (λ (bytes : List ℕ).
+          Calls (calls_for bytes + 2) (g.D.Disk.disk c.self.inside.store.disk) (g.D.Disk.disk change.new.store.disk) change.result) brings made.calls;
+    })
     c.told.new.self c.told.result (record { store_is = told.store; place_is = told.place; auth_is = told.auth; kept = told.kept; tells = told.tells }) in
     record { acts = does.acts; disk = does.changes }

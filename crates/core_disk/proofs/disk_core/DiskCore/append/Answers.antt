@@ -1,9 +1,10 @@
-use Rattle.std.proofs.Common.{◌<◌, length, Option, Some, sym, ap, refl, ◌∙◌, arith}
+use Rattle.std.proofs.Common.{ℕ, ◌+◌, ◌<◌, List, length, Option, Some, sym, ap, subst, refl, ◌∙◌, arith}
 use Rattle.commit_book.specs.declared.commit.Commit.TheVariants.{Append as AppendCommit}
 use Rattle.core_state.specs.Events.Event.{Append}
+use Rattle.oplog_file.specs.Storing.{Calls}
 use Rattle.node_set.specs.Contents.{bytes_under}
 use Rattle.core_disk.specs.InHand.{InHand}
-use Rattle.core_disk.specs.Plans.{Part}
+use Rattle.core_disk.specs.Plans.{Part, calls_for}
 use Rattle.core_disk.specs.Stored.{content_of}
 use Rattle.core_disk.proofs.ChangePlansMade.{append_rests, append_part, append_plan, signed_few}
 use Rattle.core_disk.proofs.ChangeActs.{broken_does, refused_does, rests_does, given_does}
@@ -57,6 +58,11 @@ returns g c =
     c.len-2.result c.len-2.ensures c.of.result (c.of.ensures ∙ c.as_slice.ensures.value) part part_is)
     change.result change.new.store change.new.file
     (record { takes = made.takes; writes = made.writes; behind = made.behind; torn = made.torn; laid_is = made.laid })
-    (record { err = made.err; why = made.why; quiet = made.quiet; calls = made.calls })
+    (record {
+      err = made.err;
+      why = made.why;
+      quiet = made.quiet;
+      calls = subst (λ (bytes : List ℕ). Calls (calls_for bytes + 2) disk (g.D.Disk.disk change.new.store.disk) change.result) c.flat.ensures made.calls;
+    })
     c.told.new.self c.told.result (record { store_is = told.store; place_is = told.place; auth_is = told.auth; kept = told.kept; tells = told.tells }) in
     record { acts = does.acts; disk = does.changes }

@@ -1,4 +1,5 @@
-use Rattle.std.proofs.Common.{refl, arith}
+use Rattle.std.proofs.Common.{refl, ap, ◌∙◌, arith}
+use Rattle.outside_traits.specs.Faults.{count_fault}
 use Rattle.outside_traits.proofs.memory.MemSourceSource.read.Goals as goal
 
 pub returns-then-next-clause-reads : goal.returns-then-next-clause-reads
@@ -6,8 +7,8 @@ returns-then-next-clause-reads c = rw (← c.self.view_is) (record {
   within = tt;
   given = refl;
   left = refl;
-  cause = record {
+  faults = record {
     kept = omega (arith, c.fail.ensures.kept, c.next.ensures.faults);
-    rose = λ _. omega (arith, c.fail.ensures.faults, c.next.ensures.faults);
+    one = c.fail.ensures.faults ∙ ap count_fault c.next.ensures.faults;
   };
 })

@@ -1,0 +1,4 @@
+mod RequestLemmas
+mod PlanLemmas
+mod RunLemmas
+mod StandardFacts

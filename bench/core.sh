@@ -1,13 +1,13 @@
 #!/usr/bin/env bash
 # Times the core in memory against the proved hash of the same leaves and parents, in one run in which all of them take
 # turns: the least time of five rounds (of as many as BENCH_ROUNDS says, for a machine that is not quiet).
-# First build the program: (cd crates/core_bench && rt run)
+# First build the program: (cd crates/bench_log && rt run)
 set -eu
 cd "$(dirname "$0")/.."
-ours=$PWD/crates/core_bench/out/core_bench
+ours=$PWD/crates/bench_log/out/bench_log
 rounds=${BENCH_ROUNDS:-5}
 batches=${BENCH_BATCHES:-1024}
-[ -x "$ours" ] || { echo "no $ours: run 'rt run' in crates/core_bench" >&2; exit 2; }
+[ -x "$ours" ] || { echo "no $ours: run 'rt run' in crates/bench_log" >&2; exit 2; }
 
 # the full root over a block of the log
 depth=0

@@ -2,14 +2,14 @@
 # Times the hash of crates/blake2b_hash against b2sum and, where it is installed, libb2, over the
 # same bytes in one run: the least user time of five rounds, in which all of them take turns. On a
 # machine that is not quiet set BENCH_ROUNDS to more.
-# First build the program: (cd crates/hash_bench && rt run)
+# First build the program: (cd crates/bench_log && rt run)
 set -eu
 cd "$(dirname "$0")/.."
-ours=$PWD/crates/hash_bench/out/hash_bench
+ours=$PWD/crates/bench_log/out/bench_log
 rounds=${BENCH_ROUNDS:-5}
 mebibytes=256
 messages=1000000
-[ -x "$ours" ] || { echo "no $ours: run 'rt run' in crates/hash_bench" >&2; exit 2; }
+[ -x "$ours" ] || { echo "no $ours: run 'rt run' in crates/bench_log" >&2; exit 2; }
 
 folder=$(mktemp -d "${BENCH_FOLDER:-/dev/shm}/hash.XXXXXX")
 trap 'rm -rf "$folder"' EXIT

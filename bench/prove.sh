@@ -1,11 +1,11 @@
 #!/usr/bin/env bash
 # Times `prove` on the largest batch (1,024 lines of 8,192 bytes: 8 MiB) against hashing the same bytes with
-# crates/hash_bench, in one run: the least time of five rounds of twenty runs each, in which both take turns. On a
+# crates/bench_log, in one run: the least time of five rounds of twenty runs each, in which both take turns. On a
 # machine that is not quiet set BENCH_ROUNDS to more.
-# First build both programs: (cd crates/hash_bench && rt run) and (cd crates/hypercore_cli && rt run)
+# First build both programs: (cd crates/bench_log && rt run) and (cd crates/hypercore_cli && rt run)
 set -eu
 cd "$(dirname "$0")/.."
-hash=$PWD/crates/hash_bench/out/hash_bench
+hash=$PWD/crates/bench_log/out/bench_log
 program=$PWD/crates/hypercore_cli/out/hypercore_cli
 rounds=${BENCH_ROUNDS:-5}
 runs=20

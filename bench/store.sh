@@ -4,11 +4,11 @@
 # 256 MiB, and `get` of a long log's last block. All take turns in one run; what counts is the least time of five
 # rounds (of as many as BENCH_ROUNDS says, for a machine that is not quiet). BENCH_KINDS names those of
 # `commit append get` that are measured.
-# First build the programs: (cd crates/NAME && rt run) for store_bench and hypercore_cli.
+# First build the programs: (cd crates/NAME && rt run) for bench_log and hypercore_cli.
 set -eu
 top=$(cd "$(dirname "$0")/.." && pwd)
 parent=$(cd "${1:-$top}" && pwd)
-ours=$top/crates/store_bench/out/store_bench
+ours=$top/crates/bench_log/out/bench_log
 program=$top/crates/hypercore_cli/out/hypercore_cli
 rounds=${BENCH_ROUNDS:-5}
 kinds=${BENCH_KINDS:-commit append get}
@@ -89,7 +89,7 @@ append_round() {
         appended=$((appended + spent))
         measure_entries hypercore-store
         fresh
-        spent=$("$ours" hash "$lines" "$block_bytes" "$(parents_of "$lines")")
+        spent=$("$ours" leaves "$lines" "$block_bytes" "$(parents_of "$lines")")
         stored=$((stored + spent))
         spent=$("$pairs" pairs . "$batches" $((batch_blocks * block_bytes)) "$entry_bytes")
         stored=$((stored + spent))

@@ -3,6 +3,7 @@ use Rattle.std.proofs.Common.{◌≡◌, Bool, true, false, List, [], ◌∷◌,
 use Rattle.bit_field.specs.Places.{has, is_in, count_below}
 use Rattle.bit_field.specs.Pages.{number_from, byte_at, bytes_from}
 use Rattle.bit_field.specs.Words.{in_words, set_of}
+use Rattle.bit_field.specs.declared.page.TheConstants.{PAGE_BYTES, PAGE_PLACES}
 
 -- the places 0, 9 and 15 of sixteen
 abbrev three_places : List Bool
@@ -32,3 +33,11 @@ set_of_one_word = refl
 place_64 : (in_words (0 ∷ 1 ∷ []) 63 ≡ false) × (in_words (0 ∷ 1 ∷ []) 64 ≡ true) × (in_words (0 ∷ 1 ∷ []) 65 ≡ false)
 unfolding in_words
 place_64 = (refl, refl, refl)
+
+-- ---- limits
+
+page_bytes_is : PAGE_BYTES ≡ 4096
+page_bytes_is = refl
+
+page_places_is : PAGE_PLACES ≡ 32768
+page_places_is = refl

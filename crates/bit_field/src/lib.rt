@@ -11,6 +11,3 @@ mod words;
 
 pub use bits::{Bits, MAX_PLACES};
 pub use page::{PAGE_BYTES, PAGE_PLACES};
-
-#[cfg(test)]
-mod tests;

@@ -1,6 +1,7 @@
 -- Hashes that RFC 7693 or another implementation gives, so that a wrong constant, order or padding in the definitions does not check.
 use Rattle.std.proofs.Common.{◌≡◌, [], ◌∷◌, codes, replicate, refl}
 use Rattle.blake2b_hash.specs.Blake2b.{G, round, rounds, F, words, state_after, last_state, blake2b, hash_of}
+use Rattle.blake2b_hash.specs.declared.hasher.TheConstants.{MAX_OUT_BYTES, MAX_KEY_BYTES}
 
 -- RFC 7693, appendix A
 pub hash_of_abc : blake2b 64 [] (codes "abc") ≡ 186 ∷ 128 ∷ 165 ∷ 63 ∷ 152 ∷ 28 ∷ 77 ∷ 13 ∷ 106 ∷ 39 ∷ 151 ∷ 182 ∷ 159 ∷ 18 ∷ 246 ∷ 233 ∷ 76 ∷ 33 ∷ 47 ∷ 20 ∷ 104 ∷ 90 ∷ 196 ∷ 183 ∷ 75 ∷ 18 ∷ 187 ∷ 111 ∷ 219 ∷ 255 ∷ 162 ∷ 209 ∷ 125 ∷ 135 ∷ 197 ∷ 57 ∷ 42 ∷ 171 ∷ 121 ∷ 45 ∷ 194 ∷ 82 ∷ 213 ∷ 222 ∷ 69 ∷ 51 ∷ 204 ∷ 149 ∷ 24 ∷ 211 ∷ 138 ∷ 168 ∷ 219 ∷ 241 ∷ 146 ∷ 90 ∷ 185 ∷ 35 ∷ 134 ∷ 237 ∷ 212 ∷ 0 ∷ 153 ∷ 35 ∷ []
@@ -31,3 +32,11 @@ hash_of_one_block = refl
 pub hash_of_two_blocks : hash_of (replicate 129 0) ≡ 186 ∷ 173 ∷ 251 ∷ 100 ∷ 195 ∷ 189 ∷ 44 ∷ 209 ∷ 135 ∷ 181 ∷ 74 ∷ 204 ∷ 197 ∷ 230 ∷ 26 ∷ 7 ∷ 32 ∷ 237 ∷ 134 ∷ 191 ∷ 72 ∷ 194 ∷ 128 ∷ 23 ∷ 135 ∷ 53 ∷ 54 ∷ 207 ∷ 144 ∷ 21 ∷ 209 ∷ 184 ∷ []
 unfolding G round rounds F words state_after last_state blake2b hash_of
 hash_of_two_blocks = refl
+
+-- ---- limits
+
+max_out_bytes_is : MAX_OUT_BYTES ≡ 64
+max_out_bytes_is = refl
+
+max_key_bytes_is : MAX_KEY_BYTES ≡ 64
+max_key_bytes_is = refl

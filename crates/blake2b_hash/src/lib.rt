@@ -5,8 +5,6 @@
 mod compress;
 mod digest;
 mod hasher;
-#[cfg(test)]
-mod tests;
 
 pub use digest::{hash256, hash256_pair, keyed256};
 pub use hasher::{BadParam, Blake2b, MAX_KEY_BYTES, MAX_OUT_BYTES};

@@ -4,8 +4,6 @@
 
 mod event;
 mod shared;
-#[cfg(test)]
-mod tests;
 mod toy;
 
 pub use event::{Event, Reply};

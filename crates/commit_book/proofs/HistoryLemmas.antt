@@ -18,16 +18,3 @@ module _ (limits : Limits) where
   -- one more entry
   pub IsLegal-push : (s : Summary) (es : List Entry) (e : Entry) → IsLegal limits s es → MayFollow limits (replay s es) e → IsLegal limits s (es ++ e ∷ [])
   IsLegal-push s es e p q = IsLegal-append s es (e ∷ []) p (q, tt)
-
-  -- both parts of a legal list are legal
-  pub IsLegal-front : (s : Summary) (xs ys : List Entry) → IsLegal limits s (xs ++ ys) → IsLegal limits s xs
-  IsLegal-front s [] ys p = tt
-  IsLegal-front s (x ∷ xs) ys p = (p.0, IsLegal-front (after s x) xs ys p.1)
-
-  pub IsLegal-back : (s : Summary) (xs ys : List Entry) → IsLegal limits s (xs ++ ys) → IsLegal limits (replay s xs) ys
-  IsLegal-back s [] ys p = p
-  IsLegal-back s (x ∷ xs) ys p = IsLegal-back (after s x) xs ys p.1
-
-  -- what begins a legal list is legal
-  pub IsLegal-IsPrefix : (s : Summary) (xs ys : List Entry) → IsPrefix xs ys → IsLegal limits s ys → IsLegal limits s xs
-  IsLegal-IsPrefix s xs ys begins p = IsLegal-front s xs begins.rest (subst (IsLegal limits s) (sym begins.whole) p)

@@ -4,6 +4,7 @@ use Rattle.commit_book.specs.declared.commit.Commit.{Commit}
 use Rattle.commit_book.specs.declared.commit.Commit.TheVariants.{Append, Truncate, Clear, Fetch, UpgradeFetch, ReorgFetch}
 use Rattle.commit_book.specs.declared.commit.Entry.{Entry}
 use Rattle.commit_book.specs.History.{Summary, Limits, replay, IsInRange, IsLegal}
+use Rattle.commit_book.specs.declared.laid.TheConstants.{MAX_PASSES}
 
 -- the start of a core
 abbrev empty : Summary
@@ -58,3 +59,8 @@ none_appended c = omega (arith, c.0)
 
 pub twice_fetched : IsInRange few (Fetch 1) (replay empty (entry (Append 4) 1 ∷ [])) → ⊥
 twice_fetched c = true≢false c.1
+
+-- ---- limits
+
+max_passes_is : MAX_PASSES ≡ 32
+max_passes_is = refl

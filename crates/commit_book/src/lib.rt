@@ -10,8 +10,6 @@ mod laid;
 mod law;
 mod pass;
 mod steps;
-#[cfg(test)]
-mod tests;
 
 pub use book::Book;
 pub use close::BookClose;

@@ -57,13 +57,6 @@ writes_then text more old mid new done (Err full) p q = record {
   );
 }
 
--- no text
-pub writes_nothing : {A : Type 0} (old : Encoder) (done : A) → Writes [] old old (Ok done)
-writes_nothing old done = record {
-  buffer = record { name = refl; length = refl };
-  puts = (omega arith, omega arith, sym (append-nil (written old)));
-}
-
 -- all of the text is taken back where it finds no room
 pub puts_back : {A : Type 0} (text : List ℕ) (old mid new : Encoder) (full : Full) → Writes {A = A} text old mid (Err full)
     → new.place ≡ old.place → new.into ≡ mid.into → Puts {A = A} text old new (Err full) × SameBuffer old new
@@ -71,7 +64,3 @@ puts_back text old mid new full w place into = (
   (w.puts.0, place, ap (λ n. take n new.into.now) place ∙ ap (λ i. take old.place i.now) into ∙ w.puts.2),
   record { name = ap (λ i. i.ghost_name) into ∙ w.buffer.name; length = ap (λ i. length i.now) into ∙ w.buffer.length },
 )
-
--- and is there where it does
-pub puts_all : {A : Type 0} (text : List ℕ) (old new : Encoder) (done : A) → Writes text old new (Ok done) → Puts text old new (Ok done) × SameBuffer old new
-puts_all text old new done w = (w.puts, w.buffer)

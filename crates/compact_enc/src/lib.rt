@@ -8,8 +8,6 @@ mod encoder;
 mod fields;
 mod laws;
 mod marks;
-#[cfg(test)]
-mod tests;
 
 pub use decoder::Decoder;
 pub use encoder::{Encoder, Full};

@@ -36,9 +36,6 @@ pub record HasRead (v : ViewState) (is_stored : ℕ → ℕ → Bool) (trees : L
   pub sizes : AllByRecursion (λ (node : Node). node.size ≤ MAX_CORE_BYTES) nodes
   pub stored : IsTrue v.stands → nodes ≡ map (λ (tree : Subtree). node_at v.content.node tree.depth tree.offset) (take place trees)
 
-pub HasRead-start : (v : ViewState) (is_stored : ℕ → ℕ → Bool) (trees : List Subtree) → HasRead v is_stored trees 0 []
-HasRead-start v is_stored trees = record { left = refl; count = refl; shape = refl; sizes = tt; stored = λ stands. refl }
-
 -- the full roots' numbers stand in these places, one of which is read
 module _ (n : ℕ) (places : List ℕ) (count at index : ℕ) (numbers : places ≡ numbers_of (full_roots_of n)) (all : count ≡ length places) (within : at < count)
     (there : slice_get places at ≡ Some index) (v : ViewState) (is_stored : ℕ → ℕ → Bool) where
@@ -113,8 +110,3 @@ HasRead-done v is_stored n place nodes end so_far =
         stored = λ stands. so_far.stored stands ∙ ap (map of_tree) all;
       },
     )
-
--- the fresh ones among one root more
-pub fresh-push : (before now : List Node) (root : Node) → fresh_roots before (now ++ root ∷ [])
-    ≡ fresh_roots before now ++ fresh_roots before (root ∷ [])
-fresh-push before now root = filter-append (λ (root : Node). not (list_any (λ old. is_same_node old root) before)) now (root ∷ [])

@@ -1,5 +1,5 @@
 -- Worked cases of refused changes, and of logs under a greater fork.
-use Rattle.std.proofs.Common.{◌≡◌, ℕ, List, [], ◌∷◌, map, codes, Some, None, replicate, refl}
+use Rattle.std.proofs.Common.{◌≡◌, ◌+◌, ℕ, List, [], ◌∷◌, map, codes, Some, None, replicate, refl}
 use Rattle.blake2b_hash.specs.Blake2b.{G, round, rounds, F, words, state_after, last_state, blake2b, hash_of}
 use Rattle.flat_tree.specs.Subtrees.{number, end_block_of}
 use Rattle.flat_tree.specs.Roots.{full_roots_of, roots_below}
@@ -14,6 +14,7 @@ use Rattle.node_set.specs.Changes.{append_content, truncate_content, clear_conte
 use Rattle.core_forks.specs.Reorganise.{kept_under, kept_of}
 use Rattle.core_forks.specs.Truncations.{fresh_roots}
 use Rattle.core_forks.specs.Refusals.{first_missing, truncate_refusal, clear_refusal}
+use Rattle.flat_tree.specs.declared.limits.TheConstants.{MAX_FORK}
 
 -- logs whose blocks are one byte each, all held
 abbrev letters : List ℕ → Content
@@ -44,7 +45,7 @@ pub old_fork_first : truncate_refusal cleared 5 0 ≡ Some (OldFork 0)
 unfolding joined any_under end_block_of number full_roots_of roots_below first_missing
 old_fork_first = refl
 
-pub fork_limit : truncate_refusal cleared 5 4294967296 ≡ Some (Limit Fork 4294967295)
+pub fork_limit : truncate_refusal cleared 5 (MAX_FORK + 1) ≡ Some (Limit Fork MAX_FORK)
 unfolding joined any_under end_block_of number full_roots_of roots_below first_missing
 fork_limit = refl
 

@@ -3,8 +3,6 @@
 #![tactic(auto)]
 
 mod clearing;
-#[cfg(test)]
-mod tests;
 mod truncation;
 
 pub use clearing::clear;

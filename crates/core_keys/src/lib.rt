@@ -5,8 +5,6 @@
 mod authority;
 mod ids;
 mod keyed;
-#[cfg(test)]
-mod tests;
 
 pub use authority::{MacAuth, MacKeys};
 pub use ids::{DEFAULT_NAMESPACE, discovery, name_key, namespace};

@@ -5,8 +5,6 @@
 mod laws;
 mod read;
 mod snapshot;
-#[cfg(test)]
-mod tests;
 
 pub use laws::snapshots_stay;
 pub use read::{read_held, read_snap};

@@ -2,24 +2,16 @@
 //! memory.
 #![tactic(auto)]
 
-#[cfg(test)]
-mod act_tests;
 mod acting;
 mod admit;
-#[cfg(test)]
-mod admit_tests;
 mod append;
 mod cut;
 mod event;
 mod log_core;
 mod mem_core;
 mod open_core;
-#[cfg(test)]
-mod play_tests;
 mod playing;
 mod stored;
-#[cfg(test)]
-mod tests;
 
 pub use acting::act;
 pub use append::push_all;

@@ -13,6 +13,3 @@ mod replay;
 pub use disk::{Area, Disk};
 pub use fuse::FuseDisk;
 pub use memory::{MemDisk, Room};
-
-#[cfg(test)]
-mod tests;

@@ -1,5 +1,6 @@
--- Worked values of flat-tree's numbering: nodes, roots and covers.
+-- Worked values of flat-tree's numbering: nodes, roots and covers. Last the numbers of the limits.
 use Rattle.std.proofs.Common.{◌≡◌, [], ◌∷◌, refl}
+use Rattle.flat_tree.specs.declared.limits.TheConstants.{MAX_BLOCKS, MAX_SIBLINGS, MAX_ROOTS, MAX_UPGRADE_NODES, MAX_FRESH_NODES, MAX_BLOCK_BYTES, MAX_CORE_BYTES, MAX_FORK, MAX_BATCH_BLOCKS, MAX_BATCH_BYTES, MAX_DEPTH, MAX_COUNT}
 use Rattle.flat_tree.specs.Subtrees.{number, first_block_of, end_block_of, numbers_of}
 use Rattle.flat_tree.specs.Roots.{full_roots_of, roots_below, place_past, depth_past, place_over, depth_over}
 use Rattle.flat_tree.specs.Covers.{cover_of, cover_in, largest_up_to}
@@ -47,3 +48,41 @@ cover_of_nothing = refl
 cover_of_0_to_7 : numbers_of (cover_of 0 7) ≡ 3 ∷ 9 ∷ 12 ∷ []
 unfolding cover_of cover_in largest_up_to number
 cover_of_0_to_7 = refl
+
+-- ---- limits
+
+max_blocks_is : MAX_BLOCKS ≡ 1048576
+max_blocks_is = refl
+
+max_siblings_is : MAX_SIBLINGS ≡ 20
+max_siblings_is = refl
+
+max_roots_is : MAX_ROOTS ≡ 20
+max_roots_is = refl
+
+max_upgrade_nodes_is : MAX_UPGRADE_NODES ≡ 40
+max_upgrade_nodes_is = refl
+
+max_fresh_nodes_is : MAX_FRESH_NODES ≡ 128
+max_fresh_nodes_is = refl
+
+max_block_bytes_is : MAX_BLOCK_BYTES ≡ 1048576
+max_block_bytes_is = refl
+
+max_core_bytes_is : MAX_CORE_BYTES ≡ 1099511627776
+max_core_bytes_is = refl
+
+max_fork_is : MAX_FORK ≡ 4294967295
+max_fork_is = refl
+
+max_batch_blocks_is : MAX_BATCH_BLOCKS ≡ 1024
+max_batch_blocks_is = refl
+
+max_batch_bytes_is : MAX_BATCH_BYTES ≡ 8388608
+max_batch_bytes_is = refl
+
+max_depth_is : MAX_DEPTH ≡ 32
+max_depth_is = refl
+
+max_count_is : MAX_COUNT ≡ 4294967296
+max_count_is = refl

@@ -19,6 +19,3 @@ pub use limits::{
 pub use numbers::{children, depth, index, offset, parent, sibling, spans};
 pub use room_list::{Places, RoomList};
 pub use roots::{full_roots, root_of_block};
-
-#[cfg(test)]
-mod tests;

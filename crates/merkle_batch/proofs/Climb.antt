@@ -153,32 +153,6 @@ IsUnderWay-step {block} {depth} {leaf} {left} {node} {above} {old_roots} {rest =
 
 -- ---- the leaf alone
 
-pub IsClimbing-start : (block : ℕ) (roots : List Node) (leaf : Node) → HasShape roots block → leaf.index ≡ number 0 block
-    → IsClimbing block 0 roots leaf (bytes_under roots + leaf.size)
-IsClimbing-start block roots leaf shape index =
-    let whole : block ≡ block / 2 ^ 0 = omega arith in
-    let start : block ≡ start_of 0 block = omega arith in
-    record {
-      ends = omega arith;
-      shape = subst (λ (n : ℕ). HasShape roots n) start shape;
-      index = subst (λ (n : ℕ). leaf.index ≡ number 0 n) whole index;
-      bytes = refl;
-    }
-
-pub HasClimbed-start : (values : Values) (trees : List Subtree) (block : ℕ) (roots nodes more : List Node) (leaf : Node) → leaf.index ≡ number 0 block
-    → more ≡ nodes ++ leaf ∷ [] → values 0 block ≡ Some (twig_of leaf) → AreOf values block trees roots nodes → HasClimbed values trees block 0 roots leaf more
-HasClimbed-start values trees block roots nodes more leaf index pushed value are =
-    let whole : block ≡ block / 2 ^ 0 = omega arith in
-    let start : block ≡ start_of 0 block = omega arith in
-    let here = subst (λ (n : ℕ). values 0 n ≡ Some (twig_of leaf)) whole value in
-    let number_here = subst (λ (n : ℕ). leaf.index ≡ number 0 n) whole index in
-    record {
-      at_roots = subst (λ (n : ℕ). AreNodes values (full_roots_of n) roots) start are.at_roots;
-      at_node = here;
-      at_nodes = put_last Some (node_in values) trees (subtree 0 (block / 2 ^ 0)) nodes leaf refl pushed are.at_nodes
-          (sym (node_in-is values 0 (block / 2 ^ 0) leaf number_here here));
-    }
-
 -- ---- the highest level, where the node becomes the last root
 
 module _ {block depth : ℕ} {roots : List Node} {node : Node} {all : ℕ} (climbing : IsClimbing block depth roots node all) (few : block < MAX_BLOCKS)

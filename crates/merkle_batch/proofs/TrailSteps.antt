@@ -20,11 +20,6 @@ pub record HasWalked (log : List (List ℕ)) (index depth node : ℕ) (trail : L
   pub at_node : node ≡ number depth (index / 2 ^ depth)
   pub so_far : trail ≡ map (sibling_at log index) (range_with_len 0 depth)
 
-pub HasWalked-start : {log : List (List ℕ)} {index node : ℕ} {trail : List Twig} → node ≡ number 0 index → trail ≡ [] → HasWalked log index 0 node trail
-HasWalked-start {index = index} is none =
-    let whole : index ≡ index / 2 ^ 0 = omega arith in
-    record { at_node = is ∙ ap (number 0) whole; so_far = none }
-
 -- a level that the code goes is one below the root over the block
 pub below_root : (log : List (List ℕ)) (index : ℕ) {depth count top : ℕ} → count ≡ length log → top ≡ depth_over count index → depth < top
     → depth < depth_over (length log) index

@@ -7,8 +7,6 @@ mod laws;
 mod prove;
 mod push;
 mod spell;
-#[cfg(test)]
-mod tests;
 
 pub use batch::Batch;
 pub use laws::an_honest_bundle_opens;

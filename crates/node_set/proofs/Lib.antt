@@ -21,5 +21,3 @@ pub mod PrunedPages
 pub mod PathLemmas
 pub mod OffsetSums
 pub mod TableRoots
-pub mod TableLemmas
-pub mod EmptyTable

@@ -1,6 +1,6 @@
 -- Roots looked up one after the other.
-use Rattle.std.proofs.Common.{◌≡◌, ℕ, true, false, ◌+◌, ◌<◌, ◌≤◌, List, [], ◌∷◌, ◌++◌, length, take, map, get_or, slice_get, option_map, Some, refl, sym, ap, subst, ◌∙◌, arith}
-use Rattle.std.specs.Prelude.{Option}
+use Rattle.std.proofs.Common.{◌≡◌, ℕ, true, ◌+◌, ◌<◌, ◌≤◌, List, [], ◌∷◌, ◌++◌, length, take, map, get_or, slice_get, option_map, Some, refl, sym, ap, subst, ◌∙◌, arith}
+use Rattle.std.specs.Prelude.{Option, is_some}
 use Rattle.std.specs.List.{AllByRecursion}
 use Rattle.std.proofs.lemmas.List.{map_push, take_more}
 use Rattle.std.proofs.lemmas.Option.{slice_get-map, slice_get-get_or}
@@ -10,21 +10,16 @@ use Rattle.flat_tree.specs.declared.limits.TheConstants.{MAX_CORE_BYTES}
 use Rattle.merkle_nodes.specs.declared.node.Node.{Node}
 use Rattle.merkle_nodes.specs.declared.node.Twig.{Twig}
 use Rattle.merkle_nodes.specs.Roots.{twig_of, node_of}
-use Rattle.node_set.specs.Contents.{Values, node_at, roots_at}
-use Rattle.bit_field.specs.Places.{has}
-use Rattle.node_set.specs.Nodes.{values_of}
-use Rattle.node_set.specs.Tables.{Parts, shown, FitsAsRoot, RootsFit}
+use Rattle.node_set.specs.Contents.{Values, node_at}
 use Rattle.flat_tree.proofs.RootLemmas.{length-numbers}
-use Rattle.node_set.proofs.AppendLemmas.{all_get, all_push}
-use Rattle.node_set.proofs.ClosureLemmas.{root_in_closure}
+use Rattle.node_set.proofs.AppendLemmas.{all_push}
 use Rattle.node_set.proofs.RootTruth.{twig_at-some}
-use Rattle.node_set.proofs.SoundLemmas.{roots_same}
 
 -- the nodes are there for these subtrees, and are these
 pub record IsRootsOf (value : Values) (trees : List Subtree) (roots : List Node) : Type 0 where
   pub nodes : roots ≡ map (λ (tree : Subtree). node_at value tree.depth tree.offset) trees
   pub sizes : AllByRecursion (λ (node : Node). node.size ≤ MAX_CORE_BYTES) roots
-  pub fit : AllByRecursion (λ (tree : Subtree). FitsAsRoot (value tree.depth tree.offset)) trees
+  pub stored : AllByRecursion (λ (tree : Subtree). is_some (value tree.depth tree.offset) ≡ true) trees
 
 -- the subtree at a place has the number there
 pub tree_there : (trees : List Subtree) (places : List ℕ) (at index : ℕ) (blank : Subtree) → places ≡ numbers_of trees → at < length trees
@@ -53,15 +48,6 @@ module _ (n : ℕ) (places : List ℕ) (count at index : ℕ) (numbers : places 
   pub root_number : number (root_tree n at).depth (root_tree n at).offset ≡ index
   root_number = tree_there (full_roots_of n) places at index blank_tree numbers inside there
 
-  -- where the root there doesn't fit, not all do
-  pub root_refused : (value : Values) → ((depth offset : ℕ) → number depth offset ≡ index → FitsAsRoot (value depth offset) → false ≡ true)
-      → RootsFit value n → false ≡ true
-  root_refused value none fit =
-      let tree = root_tree n at in
-      let here = all_get (λ (tree : Subtree). FitsAsRoot (value tree.depth tree.offset)) (full_roots_of n) at tree fit
-      (slice_get-get_or (full_roots_of n) at blank_tree inside) in
-      none tree.depth tree.offset root_number here
-
   -- one root more
   pub roots_next : (value : Values) (roots more : List Node) (node : Node) → IsRootsOf value (take at (full_roots_of n)) roots → more ≡ roots ++ node ∷ []
       → ((depth offset : ℕ) → number depth offset ≡ index → value depth offset ≡ Some (twig_of node)) → node.index ≡ index
@@ -80,18 +66,9 @@ module _ (n : ℕ) (places : List ℕ) (count at index : ℕ) (numbers : places 
       ∙ sym (map_push of_tree (take at trees) tree)
       ∙ ap (map of_tree) (sym taken) in
       let small = λ (node : Node). node.size ≤ MAX_CORE_BYTES in
-      let fits_at = λ (tree : Subtree). FitsAsRoot (value tree.depth tree.offset) in
-      let fits : FitsAsRoot (value tree.depth tree.offset) = subst FitsAsRoot (sym stored) size in
+      let stored_at = λ (tree : Subtree). is_some (value tree.depth tree.offset) ≡ true in
       record {
         nodes = pushed ∙ nodes;
         sizes = subst (AllByRecursion small) (sym pushed) (all_push small roots node so_far.sizes size);
-        fit = subst (AllByRecursion fits_at) (sym taken) (all_push fits_at (take at trees) tree so_far.fit fits);
+        stored = subst (AllByRecursion stored_at) (sym taken) (all_push stored_at (take at trees) tree so_far.stored (ap is_some stored));
       }
-
--- the roots are among the values of the closure
-pub shown_roots : (parts : Parts) (roots : List Node) → roots ≡ roots_at (values_of parts.nodes) parts.head.length
-    → roots ≡ roots_at (shown parts).node parts.head.length
-shown_roots parts roots are =
-    let n = parts.head.length in
-    let value = values_of parts.nodes in
-    are ∙ roots_same n value (shown parts).node (λ d o root. rw (root_in_closure n (has parts.held) d o root) refl)

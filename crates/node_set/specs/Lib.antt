@@ -12,4 +12,3 @@ pub mod Nodes
 pub mod Views
 pub mod Walks
 pub mod Tables
-pub mod TableViews

@@ -9,9 +9,6 @@ mod laws;
 mod nodes;
 mod page;
 mod path;
-mod table;
-#[cfg(test)]
-mod tests;
 mod view;
 
 pub use change::{Change, Fresh};
@@ -24,5 +21,4 @@ pub use laws::{
 pub use nodes::Nodes;
 pub use page::PAGE_NODES;
 pub use path::{byte_offset, need};
-pub use table::TableView;
 pub use view::View;

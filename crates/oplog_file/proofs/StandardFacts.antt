@@ -12,6 +12,7 @@ use Rattle.oplog_form.specs.Headers.{header_spelling, header_in}
 use Rattle.oplog_file.specs.Frames.{Frame, frame_spelling, front_of}
 use Rattle.oplog_file.specs.Slots.{header_frame, header_at, is_after}
 use Rattle.oplog_file.specs.Counting.{Count, frames_up_to}
+use Rattle.oplog_file.specs.declared.layout.TheConstants.{CHECK_BYTES, FRAME_HEAD_BYTES, SLOT_BYTES, ENTRIES_AT, MAX_ENTRIES_BYTES}
 
 -- ---- frames
 
@@ -161,3 +162,20 @@ second_is_empty = refl
 pub second_cut_off : frames_up_to 9 5 1 (first_bytes ++ (2 ∷ 0 ∷ 0 ∷ 0 ∷ 184 ∷ 163 ∷ 154 ∷ 97 ∷ 223 ∷ 28 ∷ 141 ∷ 188 ∷ 6 ∷ 42 ∷ 52 ∷ 88 ∷ 116 ∷ 192 ∷ 141 ∷ 162 ∷ 5 ∷ 0 ∷ 0 ∷ 0 ∷ 0 ∷ 0 ∷ 0 ∷ 0 ∷ 2 ∷ 0 ∷ 0 ∷ 0 ∷ 8 ∷ [])) ≡ first ∷ []
 unfolding frames_up_to front_of G round rounds F words state_after last_state blake2b hash_of
 second_cut_off = refl
+
+-- ---- limits
+
+check_bytes_is : CHECK_BYTES ≡ 16
+check_bytes_is = refl
+
+frame_head_bytes_is : FRAME_HEAD_BYTES ≡ 32
+frame_head_bytes_is = refl
+
+slot_bytes_is : SLOT_BYTES ≡ 4096
+slot_bytes_is = refl
+
+entries_at_is : ENTRIES_AT ≡ 8192
+entries_at_is = refl
+
+max_entries_bytes_is : MAX_ENTRIES_BYTES ≡ 16777216
+max_entries_bytes_is = refl

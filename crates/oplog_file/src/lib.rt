@@ -8,10 +8,6 @@ mod frame;
 mod layout;
 mod opening;
 mod reading;
-#[cfg(test)]
-mod tests;
-#[cfg(test)]
-mod write_tests;
 mod writing;
 
 pub use file::OplogFile;

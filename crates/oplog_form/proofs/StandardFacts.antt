@@ -1,5 +1,5 @@
 -- Worked cases, computed by the definitions.
-use Rattle.std.proofs.Common.{◌≡◌, ℕ, List, [], ◌∷◌, ◌++◌, length, replicate, Ok, Err, refl}
+use Rattle.std.proofs.Common.{◌≡◌, ℕ, List, [], ◌∷◌, ◌++◌, ◌+◌, ◌*◌, length, replicate, Ok, Err, refl}
 use Rattle.commit_book.specs.declared.commit.Commit.TheVariants.{Append, Truncate, Clear, Fetch, Upgrade, UpgradeFetch, Reorg, ReorgFetch}
 use Rattle.flat_tree.specs.Subtrees.{number}
 use Rattle.flat_tree.specs.Roots.{full_roots_of, roots_below}
@@ -15,6 +15,10 @@ use Rattle.oplog_form.specs.Nodes.{twig_in, nodes_in, roots_in, index_in, record
 use Rattle.oplog_form.specs.Commits.{commit_spelling, numbers_in, commit_in}
 use Rattle.oplog_form.specs.Headers.{header_spelling, header_in, header_of}
 use Rattle.oplog_form.specs.Entries.{entry_spelling, entry_in, entry_of}
+use Rattle.flat_tree.specs.declared.limits.TheConstants.{MAX_BLOCKS, MAX_BATCH_BLOCKS, MAX_ROOTS}
+use Rattle.oplog_form.specs.declared.header.TheConstants.{MAX_HEADER_BYTES}
+use Rattle.oplog_form.specs.declared.commit.TheConstants.{MAX_NUMBER}
+use Rattle.oplog_form.specs.declared.entry.TheConstants.{MAX_ENTRY_BYTES, MAX_ENTRY_NODES}
 
 -- ---- headers
 
@@ -81,8 +85,8 @@ pub fork_too_large : header_of (behind_id (0xff ∷ 0 ∷ 0 ∷ 0 ∷ 0 ∷ 1 �
 unfolding header_in just_of head_in uint_at wide_at bytes_at
 fork_too_large = refl
 
-pub length_too_large : header_of (behind_id (0 ∷ 0xfe ∷ 1 ∷ 0 ∷ 0x10 ∷ 0 ∷ replicate 64 0)) ≡ Err (record { at = 34 })
-unfolding header_in just_of head_in uint_at wide_at bytes_at
+pub length_too_large : header_of (behind_id (0 ∷ uint_spelling (MAX_BLOCKS + 1) ++ replicate 64 0)) ≡ Err (record { at = 34 })
+unfolding header_in just_of head_in uint_spelling uint_at wide_at bytes_at
 length_too_large = refl
 
 -- one root fewer and one more than the length has
@@ -207,3 +211,17 @@ hash_cut_off = refl
 pub nothing_at_all : entry_of [] ≡ Err (record { at = 0 })
 unfolding entry_in commit_in uint_at
 nothing_at_all = refl
+
+-- ---- limits
+
+max_header_bytes_is : MAX_HEADER_BYTES ≡ 4064
+max_header_bytes_is = refl
+
+max_number_is : MAX_NUMBER ≡ 4294967295
+max_number_is = refl
+
+max_entry_bytes_is : MAX_ENTRY_BYTES ≡ 131072
+max_entry_bytes_is = refl
+
+max_entry_nodes_is : MAX_ENTRY_NODES ≡ 2 * MAX_BATCH_BLOCKS + MAX_ROOTS
+max_entry_nodes_is = refl

@@ -11,8 +11,6 @@ mod header;
 mod laws;
 mod nodes;
 mod records;
-#[cfg(test)]
-mod tests;
 
 pub use commit::MAX_NUMBER;
 pub use entry::{Entry, MAX_ENTRY_BYTES, MAX_ENTRY_NODES, put_entry, read_entry};

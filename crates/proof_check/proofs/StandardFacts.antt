@@ -1,5 +1,5 @@
 -- Worked cases of admissions, and of refusals of which two hold at once.
-use Rattle.std.proofs.Common.{◌≡◌, ℕ, Bool, true, false, List, [], ◌∷◌, map, codes, Some, None, is_some, replicate, if◌then◌else◌, refl}
+use Rattle.std.proofs.Common.{◌≡◌, ◌+◌, ℕ, Bool, true, false, List, [], ◌∷◌, map, codes, Some, None, is_some, replicate, if◌then◌else◌, refl}
 use Rattle.blake2b_hash.specs.Blake2b.{G, round, rounds, F, words, state_after, last_state, blake2b, hash_of}
 use Rattle.flat_tree.specs.Subtrees.{number, end_block_of, first_block_of}
 use Rattle.flat_tree.specs.Roots.{full_roots_of, roots_below, place_past, depth_past}
@@ -22,6 +22,7 @@ use Rattle.node_set.specs.Offsets.{levels_to, left_bytes}
 use Rattle.node_set.specs.Paths.{folded_at}
 use Rattle.core_forks.specs.Reorganise.{kept_under}
 use Rattle.proof_check.specs.Judge.{refusal_of, admitted, commit_of}
+use Rattle.flat_tree.specs.declared.limits.TheConstants.{MAX_BLOCKS, MAX_CORE_BYTES}
 
 -- a verifier that accepts all, and one that accepts nothing
 abbrev all : List ℕ → List ℕ → Bool
@@ -120,21 +121,21 @@ lying_changes_nothing = (refl, refl, refl)
 -- ---- two refusals at once: the first in order is answered
 
 -- too many blocks, under an old fork, from a wrong start
-pub limit_first : refusal_of all (offer_upgrade 3 1048577 []) (record empty_eight { fork = 1 }) ≡ Some (Limit Blocks 1048576)
+pub limit_first : refusal_of all (offer_upgrade 3 (MAX_BLOCKS + 1) []) (record empty_eight { fork = 1 }) ≡ Some (Limit Blocks MAX_BLOCKS)
 limit_first = refl
 
 -- too many blocks, and a block past them
-pub limit_before_range : refusal_of all (record (offer_upgrade 8 1048577 []) { block = Some (record { index = 1048577; bytes = codes "f"; trail = [] }) }) empty_eight
-    ≡ Some (Limit Blocks 1048576)
+pub limit_before_range : refusal_of all (record (offer_upgrade 8 (MAX_BLOCKS + 1) []) { block = Some (record { index = MAX_BLOCKS + 1; bytes = codes "f"; trail = [] }) }) empty_eight
+    ≡ Some (Limit Blocks MAX_BLOCKS)
 limit_before_range = refl
 
 -- more bytes than a core has
 abbrev heavy : Twig
-heavy = record no_twig { size = 1099511627776 }
+heavy = record no_twig { size = MAX_CORE_BYTES }
 
 -- too many bytes, and a block past the end
 pub bytes_before_range : refusal_of all (record (offer_upgrade 8 9 (heavy ∷ [])) { block = Some (record { index = 9; bytes = codes "f"; trail = [] }) }) empty_eight
-    ≡ Some (Limit Bytes 1099511627776)
+    ≡ Some (Limit Bytes MAX_CORE_BYTES)
 unfolding joined value_in any_under end_block_of first_block_of cover_of cover_in largest_up_to full_roots_of roots_below depth_past levels_to fold_from tree_of number
 bytes_before_range = refl
 

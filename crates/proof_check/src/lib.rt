@@ -13,8 +13,6 @@ mod path;
 mod prepared;
 mod reach;
 mod settle;
-#[cfg(test)]
-mod tests;
 mod upgrade;
 
 pub use judging::{judge, judge_into, no_change};

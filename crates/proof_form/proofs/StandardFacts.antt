@@ -1,5 +1,5 @@
 -- Worked cases, computed by the definitions.
-use Rattle.std.proofs.Common.{◌≡◌, ℕ, true, false, List, [], ◌∷◌, map, None, Some, Ok, Err, refl}
+use Rattle.std.proofs.Common.{◌≡◌, ◌+◌, ℕ, true, false, List, [], ◌∷◌, map, None, Some, Ok, Err, refl}
 use Rattle.std.specs.List.{range_with_len}
 use Rattle.flat_tree.specs.Covers.{largest_up_to, cover_in as cover_steps, cover_of}
 use Rattle.compact_enc.specs.Spelling.{uint_spelling}
@@ -12,6 +12,8 @@ use Rattle.proof_form.specs.Form.{start_of, span_of}
 use Rattle.proof_form.specs.Requests.{request_spelling, want_of, reach_of, request_of}
 use Rattle.proof_form.specs.Twigs.{twig_in, twigs_in, trail_in, cover_in}
 use Rattle.proof_form.specs.Proofs.{Proof, proof_spelling, block_of, hash_of, upgrade_of, proof_of}
+use Rattle.proof_form.specs.declared.fields.TheConstants.{MAX_NUMBER}
+use Rattle.flat_tree.specs.declared.limits.TheConstants.{MAX_SIBLINGS}
 
 -- an input of which nothing is read yet
 abbrev pub input : List ℕ → Input
@@ -64,7 +66,7 @@ unfolding request_of start_of want_of reach_of span_of uint_at wide_at bytes_at
 fork_too_large = refl
 
 -- more siblings than any block has
-pub siblings_too_many : request_of (input (0 ∷ 1 ∷ 0 ∷ 21 ∷ [])) ≡ Err (record { at = 3; why = TooLarge })
+pub siblings_too_many : request_of (input (0 ∷ 1 ∷ 0 ∷ (MAX_SIBLINGS + 1) ∷ [])) ≡ Err (record { at = 3; why = TooLarge })
 unfolding request_of start_of want_of reach_of span_of uint_at wide_at bytes_at
 siblings_too_many = refl
 
@@ -134,3 +136,8 @@ twigs_too_many = refl
 pub proof_to_its_start : proof_of (input (0 ∷ 8 ∷ 8 ∷ 8 ∷ [])) ≡ Err (record { at = 3; why = Count })
 unfolding proof_of start_of block_of hash_of upgrade_of trail_in twigs_in twig_in cover_in span_of uint_at wide_at bytes_at buffer_at
 proof_to_its_start = refl
+
+-- ---- limits
+
+max_number_is : MAX_NUMBER ≡ 4294967295
+max_number_is = refl

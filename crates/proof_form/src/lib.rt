@@ -8,8 +8,6 @@ mod form;
 mod laws;
 mod proof;
 mod request;
-#[cfg(test)]
-mod tests;
 mod twigs;
 
 pub use fields::{MAX_NUMBER, buffer_from, fixed32_from, number_from, write_numbers};

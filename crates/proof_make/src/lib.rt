@@ -4,8 +4,6 @@
 mod answer;
 mod block;
 mod laws;
-#[cfg(test)]
-mod tests;
 mod upgrade;
 
 pub use answer::make;

@@ -1,10 +1,10 @@
 -- Worked cases, computed by the definitions.
-use Rattle.std.proofs.Common.{◌≡◌, ◌≤◌, ◌+◌, [], ◌∷◌, Ok, Err, lit≤, refl}
+use Rattle.std.proofs.Common.{◌≡◌, [], ◌∷◌, Ok, Err, refl}
 use Rattle.wire_frames.specs.declared.framer.FrameFault.TheVariants.{TooLong}
-use Rattle.wire_frames.specs.declared.limits.TheConstants.{LENGTH_BYTES, MAX_FRAME_BYTES, OUTBOX_BYTES}
 use Rattle.wire_frames.specs.Frames.{frame_spelling, frames_from, frames_of, between, within, too_long}
 use Rattle.wire_frames.specs.Framing.{partial, whole, failed, fresh_framer, feed}
 use Rattle.wire_frames.specs.Pieces.{feed_piece, feed_pieces}
+use Rattle.wire_frames.specs.declared.limits.TheConstants.{LENGTH_BYTES, MAX_FRAME_BYTES, OUTBOX_BYTES}
 
 -- a keep-alive is a frame with an empty body
 pub a_keep_alive : frames_of (0 ∷ 0 ∷ 0 ∷ []) ≡ record { bodies = [] ∷ []; ending = between }
@@ -78,9 +78,13 @@ pub one_piece : feed_pieces fresh_framer ((0 ∷ 0 ∷ 0 ∷ 2 ∷ 0 ∷ 0 ∷ 3
 unfolding feed_pieces feed_piece
 one_piece = refl
 
--- the largest body of a Data message fits a frame, and a Sync frame of 14 bytes and any other frame fit an outbox
-pub largest_data_fits : 1052010 ≤ MAX_FRAME_BYTES
-largest_data_fits = lit≤ tt
+-- ---- limits
 
-pub sync_and_a_frame_fit : 14 + (LENGTH_BYTES + MAX_FRAME_BYTES) ≤ OUTBOX_BYTES
-sync_and_a_frame_fit = lit≤ tt
+length_bytes_is : LENGTH_BYTES ≡ 3
+length_bytes_is = refl
+
+max_frame_bytes_is : MAX_FRAME_BYTES ≡ 1056768
+max_frame_bytes_is = refl
+
+outbox_bytes_is : OUTBOX_BYTES ≡ 1064960
+outbox_bytes_is = refl

@@ -137,16 +137,3 @@ none_by : (state : State) → whole_body (state_after_take state) ≡ None
 none_by (partial kept) = refl
 none_by (whole body) = refl
 none_by (failed at) = refl
-
-same_by : (state : State) → whole_body state ≡ None → state_after_take state ≡ state
-same_by (partial kept) none = refl
-same_by (whole body) none = cc
-same_by (failed at) none = refl
-
--- no frame waits once it was given out
-pub after_take-none : (framer : FramerView) → whole_body (after_take framer).state ≡ None
-after_take-none framer = none_by framer.state
-
--- where no frame waits nothing is given out
-pub after_take-same : (framer : FramerView) → whole_body framer.state ≡ None → after_take framer ≡ framer
-after_take-same framer none = ap (λ state. record { place = framer.place; state = state }) (same_by framer.state none)

@@ -7,8 +7,6 @@ mod framer;
 mod laws;
 mod limits;
 mod outbox;
-#[cfg(test)]
-mod tests;
 
 pub use framer::{FrameFault, Framer};
 pub use laws::{

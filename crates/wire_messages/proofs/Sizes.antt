@@ -194,10 +194,6 @@ buffer_most n bytes =
       uint_most (length bytes),
     )
 
--- so an extension of fewer bytes finds room
-pub extension_room : (number : ℕ) (bytes : List ℕ) → 19 + length bytes ≤ MAX_FRAME_BYTES → FindsRoom (extension number bytes)
-extension_room number bytes few = omega (arith, buffer_most number bytes, few)
-
 -- each message finds room in a frame
 pub in_frame : (m : Message) → MessageFits m → FindsRoom m → length (message_spelling m) ≤ MAX_FRAME_BYTES
 in_frame (open_core version id) f room = omega (arith, length-append (uint_spelling version) id, uint_most version, f.1)

@@ -12,7 +12,7 @@ use Rattle.proof_form.specs.Requests.{request_spelling, want_of, reach_of, reque
 use Rattle.proof_form.specs.Twigs.{cover_in}
 use Rattle.proof_form.specs.Proofs.{proof_of, upgrade_of}
 use Rattle.wire_frames.specs.Frames.{frame_spelling}
-use Rattle.wire_messages.specs.declared.message.TheConstants.{MAX_ANSWER_BYTES}
+use Rattle.wire_messages.specs.declared.message.TheConstants.{OPEN_CORE, ANSWER, UNWANT, PAGE_BLOCKS, PAGE_BYTES, MAX_ANSWER_BYTES}
 use Rattle.wire_messages.specs.Messages.{Message, sync, ask, cancel, no_data, want, bitfield, range, extension, message_spelling}
 use Rattle.wire_messages.specs.Reading.{both_of, page_of, drop_of, kind_of, fields_of, message_of}
 
@@ -106,7 +106,7 @@ pub a_byte_too_many : IsBad (3 ∷ 5 ∷ 0xff ∷ []) 2 Trailing
 unfolding message_of kind_of fields_of uint_at
 a_byte_too_many = refl
 
-pub siblings_too_many : IsBad (2 ∷ 1 ∷ 0 ∷ 1 ∷ 0 ∷ 21 ∷ []) 5 TooLarge
+pub siblings_too_many : IsBad (2 ∷ 1 ∷ 0 ∷ 1 ∷ 0 ∷ (MAX_SIBLINGS + 1) ∷ []) 5 TooLarge
 unfolding message_of kind_of fields_of both_of request_of start_of want_of uint_at
 siblings_too_many = refl
 
@@ -158,3 +158,14 @@ most_parts = (5 + (5 + MAX_BLOCK_BYTES) + most_trail) + (5 + 41 + most_trail) + 
 
 pub largest_answer : 1 + 5 + 5 + 1 + most_parts ≡ MAX_ANSWER_BYTES
 largest_answer = refl
+
+-- ---- limits, and the types of which no row above speaks
+
+page_blocks_is : PAGE_BLOCKS ≡ 32768
+page_blocks_is = refl
+
+page_bytes_is : PAGE_BYTES ≡ 4096
+page_bytes_is = refl
+
+other_types : (OPEN_CORE ≡ 0) × (ANSWER ≡ 4) × (UNWANT ≡ 7)
+other_types = (refl, refl, refl)

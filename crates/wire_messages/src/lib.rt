@@ -5,8 +5,6 @@
 mod laws;
 mod message;
 mod read;
-#[cfg(test)]
-mod tests;
 mod write;
 
 pub use laws::{messages_find_room, one_spelling_of_a_message};

@@ -8,6 +8,7 @@ invariant_of-result c = empty_kept _ (record {
   none = refl;
   signature = refl;
   held = c.none.ensures;
+  nodes = c.new.ensures.values;
   blocks = c.new-2.ensures.items;
   roots = c.new-roots.ensures;
   root = c.root_hash-root.ensures;

@@ -1,3 +1,0 @@
-pub mod Cell
-pub use Rattle.disk_trait.specs.Disk
-pub use Rattle.disk_trait.specs.Runs

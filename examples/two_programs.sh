@@ -164,6 +164,15 @@ traced() {
   strace -qq -o /dev/null -e trace="${call%%:*}" -e inject="$call" "$program" "$@"
 }
 
+# An append of these lines to a new core writes and syncs the file of the blocks so many times.
+blocks_are_called() {
+  local count
+  fresh made
+  strace -qq -y -o calls -e trace=fsync,fdatasync,pwrite64 "$program" append "$key" log < "$1" > said 2>&1
+  count=$(grep -c '/blocks>' calls)
+  [ "$count" -eq "$2" ] || wrong "append of $1: $count calls on the blocks, wanted $2"
+}
+
 with_strace() {
   # The second init waits before the lock, after it saw no core. Meanwhile one is made, and a block appended.
   rm -rf hypercore-store
@@ -177,6 +186,12 @@ with_strace() {
   pid=
   is_same one-block hypercore-store
   done_with 'an init that finds a core made meanwhile'
+
+  # A commit with bytes writes and syncs the file of the blocks, and one without leaves it to the sync of opening.
+  echo > empty
+  blocks_are_called one 3
+  blocks_are_called empty 1
+  done_with 'a commit without bytes leaves the blocks alone'
 
   # The mark's file is synced first, and then the folder with its name.
   local call

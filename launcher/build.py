@@ -5,6 +5,8 @@ it. Tests and wrong bodies have no part in it.
 The toolchain's gate does so on a copy of the sources outside the repository that has these crates alone. It keeps each
 crate that it proved, so that a run that was interrupted goes on from there, and the repository's own gate takes them too.
 """
+import importlib.machinery
+import importlib.util
 import os
 import re
 import shutil
@@ -12,10 +14,12 @@ import signal
 import subprocess
 import sys
 import tempfile
+from concurrent.futures import FIRST_COMPLETED, ThreadPoolExecutor, wait
 
 TOP = os.path.dirname(os.path.dirname(os.path.abspath(__file__)))
 PROGRAM = "hypercore_cli"
 PARTS = ("src", "specs", "proofs")
+PROCESSORS = len(os.sched_getaffinity(0))
 
 
 def say(text):
@@ -55,11 +59,11 @@ def prove(room, count):
     """Runs the gate in the copy, says which crates are done, and returns why it failed, or None."""
     words = {"cwd": room, "stdin": subprocess.DEVNULL, "stdout": subprocess.PIPE, "stderr": subprocess.STDOUT}
     done, last = 0, []
-    with subprocess.Popen(["rt", "ci"], text=True, errors="replace", start_new_session=True, **words) as gate:
-        stop = lambda *_: os.killpg(gate.pid, signal.SIGTERM)
+    with subprocess.Popen([sys.executable, os.path.abspath(__file__), "gate"], text=True, errors="replace", start_new_session=True, **words) as run:
+        stop = lambda *_: os.killpg(run.pid, signal.SIGTERM)
         for it in (signal.SIGINT, signal.SIGTERM, signal.SIGHUP):
             signal.signal(it, lambda *_: (stop(), sys.exit(130)))
-        for line in gate.stdout:
+        for line in run.stdout:
             last = [*last[-30:], line.rstrip()]
             found = re.match(r"rt: (\w+) (proved|is kept|NOT PROVED)", line)
             if found and found[2] == "NOT PROVED":
@@ -68,7 +72,49 @@ def prove(room, count):
             if found:
                 done += 1
                 say(f"{done} of {count}: {found[1]} is proved{' already' if found[2] == 'is kept' else ''}")
-    return last if gate.returncode else None
+    return last if run.returncode else None
+
+
+def lanes(tasks):
+    """Runs the gate's tasks side by side, those first that the longest chain of others waits for, and returns what each
+    gave. A task is what it waits for, its work in lines, its memory, and a call that gets what was given and how many
+    processors it may use. The toolchain plans several times the memory that the large crates here take, so that each would
+    get one processor; they come one after the other at the end. Here a proof gets those that no other proof is ready for.
+    """
+    behind = dict.fromkeys(tasks, 0)
+    for key in reversed(list(tasks)):
+        behind[key] += tasks[key][1]
+        for below in tasks[key][0]:
+            behind[below] = max(behind[below], behind[key])
+    left, running, given = sorted(tasks, key=lambda it: -behind[it]), {}, {}
+    with ThreadPoolExecutor(PROCESSORS) as pool:
+        while left or running:
+            ready = [it for it in left if all(below in given for below in tasks[it][0])]
+            others = sum(tasks[it][1] > 0 for it in ready)
+            for key in ready:
+                _, lines, _, call = tasks[key]
+                others -= lines > 0
+                idle = PROCESSORS - sum(jobs for _, jobs in running.values())
+                if idle > 0:
+                    left.remove(key)
+                    jobs = max(1, idle - others) if lines else 1
+                    running[pool.submit(call, given, jobs)] = key, jobs
+            for it in wait(running, return_when=FIRST_COMPLETED).done:
+                given[running.pop(it)[0]] = it.result()
+    return given
+
+
+def gate():
+    """Is `rt ci` with tasks in this order, or as it is where the toolchain has another form."""
+    loader = importlib.machinery.SourceFileLoader("rt", shutil.which("rt"))
+    rt = importlib.util.module_from_spec(importlib.util.spec_from_loader("rt", loader))
+    try:
+        loader.exec_module(rt)
+        ci, _ = rt.main, rt.in_lanes
+    except (SyntaxError, AttributeError):
+        os.execvp("rt", ["rt", "ci"])
+    rt.in_lanes = lanes
+    return ci(["ci"])
 
 
 def main():
@@ -92,4 +138,4 @@ def main():
 
 
 if __name__ == "__main__":
-    sys.exit(main())
+    sys.exit(gate() if sys.argv[1:] == ["gate"] else main())

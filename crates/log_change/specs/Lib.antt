@@ -1,0 +1,2 @@
+pub mod LogChange
+pub mod Calls

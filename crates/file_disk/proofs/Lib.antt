@@ -1,0 +1,6 @@
+mod Counting
+pub mod Parts
+mod Reading
+mod Retrying
+mod StepLemmas
+mod Writing

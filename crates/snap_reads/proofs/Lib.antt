@@ -1,0 +1,3 @@
+pub mod OneBlock
+pub mod Trails
+pub mod Shown

@@ -1,4 +1,5 @@
 mod Counting
+mod Fronts
 pub mod Parts
 mod Reading
 mod Retrying

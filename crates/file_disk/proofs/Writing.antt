@@ -21,7 +21,7 @@ pub record IsWriting (area : Area) (at : ℕ) (bytes : List ℕ) (old now : File
   pub steady : Steady old now
   pub written : IsTrue old.honest → HasWritten area at bytes old now end
 
-touches_none : (R : List ℕ → List ℕ → Type 0) (area : Area) (files : FilesView) → ((d : List ℕ) → R d d) → Touches R area (areas_of files) (areas_of files)
+pub touches_none : (R : List ℕ → List ℕ → Type 0) (area : Area) (files : FilesView) → ((d : List ℕ) → R d d) → Touches R area (areas_of files) (areas_of files)
 touches_none R area files none = keeps_touches R area (areas_of files) (areas_of files) none (keeps_none (areas_of files))
 
 pub writing_starts : (area : Area) (at : ℕ) (bytes : List ℕ) (files : FilesView) → at < 2 ^ 64 → IsWriting area at bytes files files 0

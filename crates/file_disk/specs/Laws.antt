@@ -1,15 +1,19 @@
--- Where no step was made since, a disk of files was not touched since.
+-- A disk with other counts shows the same areas, images and clock.
 use Rattle.std.proofs.Common.{ℕ}
-use Rattle.disk_trait.specs.Disk.{Keeps, IsOnePast}
-use Rattle.file_disk.specs.Files.{FilesView, as_disk, areas_of}
+use Rattle.disk_trait.specs.Disk.{DiskView, Keeps, IsOnePast}
 
-module _ (old new : FilesView) (calls calls' faults faults' : ℕ) where
-  pub counted_keeps : Keeps (areas_of old) (areas_of new) → Keeps (as_disk old calls faults) (as_disk new calls' faults')
+-- a disk with these counts in place of its own
+abbrev pub disk_with_counts : DiskView → ℕ → ℕ → DiskView
+disk_with_counts disk calls faults = record disk { calls = calls; faults = faults }
+
+module _ (old new : DiskView) (calls calls' faults faults' : ℕ) where
+  pub counted_keeps : Keeps old new → Keeps (disk_with_counts old calls faults) (disk_with_counts new calls' faults')
   counted_keeps k = record {
     time = record { later = k.time.later; past = k.time.past };
     each = λ area. record { reads = (k.each area).reads; images = (k.each area).images };
   }
 
-  pub counted_rests : (IsOnePast (areas_of old) (areas_of new) → Keeps (areas_of old) (areas_of new))
-      → IsOnePast (as_disk old calls faults) (as_disk new calls' faults') → Keeps (as_disk old calls faults) (as_disk new calls' faults')
+  -- where no step was made since, the disk was not touched since
+  pub counted_rests : (IsOnePast old new → Keeps old new) → IsOnePast (disk_with_counts old calls faults) (disk_with_counts new calls' faults')
+      → Keeps (disk_with_counts old calls faults) (disk_with_counts new calls' faults')
   counted_rests rests one = counted_keeps (rests (record { past = one.past; later = one.later }))

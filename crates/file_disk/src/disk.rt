@@ -4,7 +4,7 @@ ghost use Rattle.outside_traits.specs.Faults.{HasCause};
 ghost use Rattle.disk_trait.specs.declared.disk.Area.TheVariants.{Oplog};
 ghost use Rattle.disk_trait.specs.Disk.{Counts, Reads, Writes, Cuts, Syncs, Sizes};
 ghost use Rattle.file_disk.specs.Disk.{handle_of, AreHandles, file_view_of};
-ghost use Rattle.file_disk.specs.Files.{SameAreas, Asks, Retries};
+ghost use Rattle.file_disk.specs.Files.{areas_of, SameAreas, Asks, Retries};
 ghost use Rattle.file_disk.specs.Laws.{counted_rests};
 
 use crate::fault::OpenFault;
@@ -172,8 +172,8 @@ impl<F: CoreFiles> Disk for FileDisk<F> {
 
     ghost may_stay = { λ disk honest. F.CoreFiles.may_stay disk.files honest };
 
-    ghost rests = { λ old new honest one. counted_rests (F.CoreFiles.files old.files) (F.CoreFiles.files new.files)
-        old.calls new.calls old.faults new.faults (λ files. F.CoreFiles.rests old.files new.files honest files) one };
+    ghost rests = { λ old new honest one. counted_rests (areas_of (F.CoreFiles.files old.files))
+        (areas_of (F.CoreFiles.files new.files)) old.calls new.calls old.faults new.faults (λ files. F.CoreFiles.rests old.files new.files honest files) one };
 
     fn read(&mut self, area: Area, at: u64, into: &mut [u8]) -> Result<usize, Failed>
         ensures counts { Counts (file_view_of F.CoreFiles.files self.old)

@@ -27,7 +27,7 @@ use Rattle.log_change.specs.LogChange.{Ascend}
 use Rattle.log_change.proofs.Named.{number_of, HasValue, numbers_are, values_are, all_put}
 
 -- 1 for a number, and 0 for another
-abbrev one_if : ℕ → ℕ → ℕ
+abbrev pub one_if : ℕ → ℕ → ℕ
 one_if k n = if nat_eq n k then 1 else 0
 
 one_same : (k n : ℕ) → n ≡ k → one_if k n ≡ 1
@@ -37,14 +37,14 @@ one_other : (k n : ℕ) → (n ≡ k → ⊥) → one_if k n ≡ 0
 one_other k n other = rw (ne_eqb n k other) refl
 
 -- how often a number is in a list
-abbrev many : ℕ → List ℕ → ℕ
+abbrev pub many : ℕ → List ℕ → ℕ
 many k = sum_by (one_if k)
 
 -- that of a subtree, in the numbers of subtrees
-abbrev many_in : ℕ → ℕ → List Subtree → ℕ
+abbrev pub many_in : ℕ → ℕ → List Subtree → ℕ
 many_in depth offset trees = many (number depth offset) (numbers_of trees)
 
-many_append : (depth offset : ℕ) (xs ys : List Subtree) → many_in depth offset (xs ++ ys) ≡ many_in depth offset xs + many_in depth offset ys
+pub many_append : (depth offset : ℕ) (xs ys : List Subtree) → many_in depth offset (xs ++ ys) ≡ many_in depth offset xs + many_in depth offset ys
 many_append depth offset xs ys =
     let number_of = λ (tree : Subtree). number tree.depth tree.offset in
     ap (many (number depth offset)) (map-append number_of xs ys) ∙ sum_by-append (one_if (number depth offset)) (numbers_of xs) (numbers_of ys)
@@ -145,7 +145,7 @@ none_again k (node ∷ nodes) none all =
     ]
 
 -- nodes whose numbers don't fall, and come once each, ascend
-once_ascend : (nodes : List Node) → IsNonDecreasingBy number_of nodes → ((k : ℕ) → many k (map number_of nodes) ≤ 1) → Ascend nodes
+pub once_ascend : (nodes : List Node) → IsNonDecreasingBy number_of nodes → ((k : ℕ) → many k (map number_of nodes) ≤ 1) → Ascend nodes
 once_ascend [] sorted once = λ i j d less within. absurd (omega (arith, within))
 once_ascend (node ∷ nodes) sorted once =
     let later = each nodes (λ j d less. sorted 0 (suc j) d (omega arith) (omega (arith, less))) in
@@ -160,7 +160,7 @@ once_ascend (node ∷ nodes) sorted once =
     each (n ∷ ns) up = (up 0 n (omega arith), each ns (λ j d less. up (suc j) d (omega (arith, less))))
 
 -- what holds of each holds in another order
-all_moved : (P : Node → Type 0) (nodes records : List Node) → IsPermutation nodes records → AllByRecursion P nodes → AllByRecursion P records
+pub all_moved : (P : Node → Type 0) (nodes records : List Node) → IsPermutation nodes records → AllByRecursion P nodes → AllByRecursion P records
 all_moved P nodes records moved all =
     each records (λ node there. all_at P nodes node all (Contains-permutation records nodes node (IsPermutation-sym nodes records moved) there))
   where

@@ -18,5 +18,5 @@ pub use laws::{
     a_batch_in_order, a_change_leads_to_its_content, append_is_legal, clear_is_legal,
     fetch_is_legal, reorganise_is_legal, truncate_is_legal, upgrade_is_legal,
 };
-pub use reorganisation::reorganise;
+pub use reorganisation::{kept_under, reorganise};
 pub use truncation::truncate;

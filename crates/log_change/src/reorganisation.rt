@@ -1,6 +1,7 @@
 //! Another log takes the place of this one.
-ghost use Rattle.std.specs.Prelude.{◌≡◌, ◌<◌, ◌≤◌, ℕ, List, [], Some, map, true, IfOk, IsTrue};
-ghost use Rattle.flat_tree.specs.Subtrees.{number, end_block_of};
+ghost use Rattle.std.specs.Prelude.{◌≡◌, ◌<◌, ◌≤◌, ℕ, List, [], Some, drop, map, true, IfOk, IsTrue};
+ghost use Rattle.flat_tree.specs.Subtrees.{number, end_block_of, Tile};
+ghost use Rattle.flat_tree.specs.Roots.{full_roots_of};
 ghost use Rattle.flat_tree.specs.declared.limits.TheConstants.{MAX_BLOCKS, MAX_FORK};
 ghost use Rattle.commit_book.specs.declared.commit.Commit.TheVariants.{Reorg};
 ghost use Rattle.merkle_nodes.specs.Roots.{twig_of, HasShape};
@@ -72,12 +73,14 @@ pub fn reorganise<V: View>(
     })
 }
 
-// How many blocks are under the first of the roots of a length, up to one that isn't stored as it is here.
-fn kept_under<V: View>(view: &mut V, length: u64, roots: &[Node]) -> Result<u64, CoreFault>
+/// How many blocks are under the first of the roots of a length, up to one that the view doesn't store with the same size
+/// and hash. Each `Err` is the view's.
+pub fn kept_under<V: View>(view: &mut V, length: u64, roots: &[Node]) -> Result<u64, CoreFault>
     requires within { length ≤ MAX_BLOCKS }
     requires shape { HasShape roots.now length }
     ensures below { IfOk result (λ kept. kept ≤ length) }
     ensures before { IfOk result (λ kept. kept ≤ (V.view view.old).source.content.length) }
+    ensures tile { IfOk result (λ kept. (at : ℕ) × Tile (drop at (full_roots_of length)) kept length) }
     ensures given { IfOk result (λ kept. GivesBelow (V.view view.old).source kept roots.now) }
     ensures kept { let s = (V.view view.old).source in IsTrue s.shows → IsSound s.content
         → IfOk result (λ kept. kept ≡ kept_of s.content length (map twig_of roots.now)) }

@@ -12,7 +12,7 @@ use Rattle.log_view.specs.Views.{Source}
 use Rattle.log_view.specs.Walks.{IsLeftAt, AreLeft, BeginsAt}
 
 -- the sums of so many levels with that of the next one
-pub left_bytes-more : (levels : ℕ) (node : Values) (depth offset : ℕ)
+left_bytes-more : (levels : ℕ) (node : Values) (depth offset : ℕ)
     → left_bytes (suc levels) node depth offset ≡ left_bytes levels node depth offset + left_step node (depth + levels) (offset / 2 ^ levels)
 unfolding left_bytes
 left_bytes-more zero node depth offset =
@@ -26,6 +26,12 @@ left_bytes-more (suc levels) node depth offset =
     let half : offset / 2 / 2 ^ levels ≡ offset / 2 ^ suc levels = shr-shr offset 1 levels ∙ ap (λ (k : ℕ). offset / 2 ^ k) (omega arith) in
     let same = ap (λ (d : ℕ). left_step node d (offset / 2 / 2 ^ levels)) next ∙ ap (left_step node (depth + suc levels)) half in
     omega (arith, above, same)
+
+-- from a block's leaf on
+pub left_up : (node : Values) (level index : ℕ) → left_bytes (suc level) node 0 index ≡ left_bytes level node 0 index + left_step node level (index / 2 ^ level)
+left_up node level index =
+    let flat : 0 + level ≡ level = omega arith in
+    left_bytes-more level node 0 index ∙ ap (λ (d : ℕ). left_bytes level node 0 index + left_step node d (index / 2 ^ level)) flat
 
 module _ (s : Source) (shows : IsTrue s.shows) (index : ℕ) where
   step_shown : (level own : ℕ) → IsLeftAt s index level own → own ≡ left_step s.content.node level (index / 2 ^ level)
@@ -50,10 +56,7 @@ module _ (s : Source) (shows : IsTrue s.shows) (index : ℕ) where
   left_shown (suc level) bytes (lower, own, below, here, sum) =
       let so_far = left_shown level lower below in
       let step = step_shown level own here in
-      let more = left_bytes-more level s.content.node 0 index in
-      let flat : 0 + level ≡ level = omega arith in
-      let same = ap (λ (d : ℕ). left_step s.content.node d (index / 2 ^ level)) flat in
-      omega (arith, sum, so_far, step, more, same)
+      omega (arith, sum, so_far, step, left_up s.content.node level index)
 
   pub begins_shown : (byte : ℕ) → BeginsAt s index byte → byte ≡ offset_of s.content index
   begins_shown byte (left, are, sum) =

@@ -1,4 +1,5 @@
 pub mod Finding
 pub mod Laying
 pub mod LeftSums
+pub mod Spots
 pub mod StoredNodes

@@ -4,10 +4,12 @@
 
 mod laws;
 mod overlay;
+mod seeking;
 mod view;
 mod walk;
 
 pub use laws::{overlay_keeps_its_view, what_is_laid};
 pub use overlay::Overlay;
+pub use seeking::{Spot, seek};
 pub use view::View;
 pub use walk::{byte_offset, need};

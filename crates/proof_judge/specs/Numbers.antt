@@ -8,7 +8,7 @@ use Rattle.node_set.specs.declared.fault.Refusal.{Refusal}
 use Rattle.node_set.specs.declared.fault.Refusal.TheVariants.{Limit}
 use Rattle.node_set.specs.Contents.{Content, roots, bytes_under}
 use Rattle.node_set.specs.Refuses.{or_else, refuse_if}
-use Rattle.proof_check.specs.Early.{twig_bytes}
+use Rattle.root_stack.specs.Stack.{twig_bytes}
 use Rattle.proof_check.specs.Upgraded.{length_after}
 use Rattle.proof_check.specs.Parts.{of_part, range_refusal}
 use Rattle.proof_check.specs.Judge.{each_part, head_refusal}

@@ -7,8 +7,7 @@ ghost use Rattle.merkle_nodes.specs.Bundle.{TwigFits};
 ghost use Rattle.node_set.specs.declared.fault.Refusal.TheVariants.{Limit, NewFork};
 ghost use Rattle.node_set.specs.Contents.{Content, roots as roots_in, bytes_under};
 ghost use Rattle.node_set.specs.Refuses.{or_else, refuse_if};
-ghost use Rattle.proof_check.specs.Growth.{SizeFits};
-ghost use Rattle.proof_check.specs.Early.{twig_bytes};
+ghost use Rattle.root_stack.specs.Stack.{SizeFits, twig_bytes};
 ghost use Rattle.proof_form.specs.Proofs.{Proof as ProofSpelled, UpgradeFits, HashFits, ProofFits, view, block_view};
 ghost use Rattle.proof_check.specs.Parts.{of_part, part_of_block, part_of_hash, range_refusal};
 ghost use Rattle.proof_check.specs.Upgraded.{length_after};
@@ -137,8 +136,8 @@ fn has_too_many_blocks(upgrade: &Option<UpgradePart>) -> bool
     }
 }
 
-// The bytes under some nodes.
-fn bytes_of_roots(nodes: &[Node]) -> u64
+/// The bytes under some nodes.
+pub(crate) fn bytes_of_roots(nodes: &[Node]) -> u64
     requires few { count nodes.now ≤ MAX_ROOTS }
     requires sizes { AllByRecursion SizeFits nodes.now }
     ensures sum { result ≡ bytes_under nodes.now }

@@ -25,6 +25,7 @@ pub const MAX_WAY_NODES: usize = 2 * MAX_SIBLINGS;
 pub type Way = RoomList<Node, MAX_WAY_NODES>;
 
 /// A part of a proof as a path: a node by its depth and offset, and siblings of its path, lowest first.
+#[derive(Drop)]
 pub struct PartPath<'p> {
     pub depth: u32,
     pub offset: u64,

@@ -1,5 +1,5 @@
 -- Which requests have an honest proof, by the head, the held indices and the closure alone; and that proof, as a view gives it.
-use Rattle.std.specs.Prelude.{◌≡◌, ℕ, Bool, ◌&&◌, ◌||◌, not, List, take, Option, Some, None, is_some, nat_eq, IfSome}
+use Rattle.std.specs.Prelude.{◌≡◌, ℕ, Bool, true, false, ◌&&◌, ◌||◌, not, List, take, Option, Some, None, is_some, nat_eq, IfSome}
 use Rattle.flat_tree.specs.Roots.{depth_over}
 use Rattle.proof_form.specs.declared.request.Want.{Want}
 use Rattle.proof_form.specs.declared.request.Reach.{Reach}
@@ -12,6 +12,7 @@ use Rattle.node_set.specs.Paths.{depth_of, offset_of_node}
 use Rattle.proof_make.specs.Answers.{made_from, made}
 use Rattle.proof_make.specs.Offers.{passes, has_block, ends_at, has_nodes, has_cover}
 use Rattle.log_view.specs.Views.{Source}
+use Rattle.log_view.specs.Walks.{FindsByte, FindsNone}
 use Rattle.proof_offer.specs.Parts.{siblings_of, Answers, GivesBlockPart, GivesHashPart, GivesUpgradePart}
 
 -- the block that is asked for by its index; or by a byte, where the index of the block that has it was found: then with its whole trail
@@ -62,9 +63,32 @@ pub record IsReply (s : Source) (request : Request) (sought : Option ℕ) (proof
   pub seek : proof.seek ≡ request.seek
   pub upgrade : Answers (GivesUpgradePart s) request.upgrade proof.upgrade
 
+-- the byte by which a block is asked for, where none is asked for by its index
+abbrev pub sought_byte : Request → Option ℕ
+sought_byte request = Beside request.block
+  where
+    Beside : Option Want → Option ℕ
+    Beside (Some want) = None
+    Beside None = request.seek
+
 -- the index is that of the content's block that has the byte which is sought, if one is
 abbrev pub IsSought : Content → Request → Option ℕ → Type 0
-IsSought m request sought = IfSome request.seek (λ byte. sought ≡ seek_at m byte)
+IsSought m request sought = IfSome (sought_byte request) (λ byte. sought ≡ seek_at m byte)
+
+-- what a view finds of a sought byte: the index of the held block that has it, or none
+abbrev pub Finds : Source → Option ℕ → Option ℕ → Type 0
+Finds s None sought = sought ≡ None
+Finds s (Some byte) None = FindsNone s byte
+Finds s (Some byte) (Some index) = (past : ℕ) × FindsByte s byte index past
+
+-- with what the view finds, a part that is asked for has no answer
+abbrev pub LacksReply : Source → Request → Type 0
+LacksReply s request = (sought : Option ℕ) × Finds s (sought_byte request) sought × (has_reply s.content request sought ≡ false)
+
+-- with what the view finds, each part that is asked for has its answer, and the proof has these
+abbrev pub GivesReply : Source → Request → Proof → Type 0
+GivesReply s request proof =
+    (sought : Option ℕ) × Finds s (sought_byte request) sought × (has_reply s.content request sought ≡ true) × IsReply s request sought proof
 
 -- each proof that the content gives for a request without a sought byte is the one that the holder of the log's first blocks makes
 abbrev pub ProofsAreOf : Content → List (List ℕ) → Type 0

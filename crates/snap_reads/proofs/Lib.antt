@@ -1,3 +1,4 @@
 pub mod OneBlock
 pub mod Trails
 pub mod Shown
+pub mod UnderSnapshot

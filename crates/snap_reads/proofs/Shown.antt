@@ -23,19 +23,19 @@ use Rattle.core_snap.proofs.WayLemmas.{stored_is, read_of_over}
 use Rattle.log_view.specs.Views.{Source}
 use Rattle.snap_reads.specs.Reads.{GivesTrail, GivesRead, LeafDiffers, RootDiffers}
 
-compared_same : (one other : Twig) → one ≡ other → is_same one other ≡ true
+pub compared_same : (one other : Twig) → one ≡ other → is_same one other ≡ true
 compared_same one other same =
     let itself : is_same one one ≡ true = rw (eq-eqb one.size one.size refl, (bytes_eq-Decides one.hash one.hash).1 refl) refl in
     subst (λ (t : Twig). is_same one t ≡ true) same itself
 
-compared_other : (one other : Twig) → one ≢ other → is_same one other ≡ false
+pub compared_other : (one other : Twig) → one ≢ other → is_same one other ≡ false
 compared_other one other differ = elim (cases_Bool (is_same one other)) [
   | inr is ↦ is
   | inl same ↦ absurd (differ (some_same _ _ (stored_is (Some one) other same)))
 ]
 
 -- the siblings that are given are the content's
-trail_shown : (s : Source) → IsTrue s.shows → (index levels : ℕ) (trail : List Twig) → GivesTrail s index levels trail → trail ≡ trail_at s.content.node 0 index levels
+pub trail_shown : (s : Source) → IsTrue s.shows → (index levels : ℕ) (trail : List Twig) → GivesTrail s index levels trail → trail ≡ trail_at s.content.node 0 index levels
 unfolding GivesTrail
 trail_shown s shows index zero trail is = is
 trail_shown s shows index (suc level) trail (lower, node, below, here, sum) =

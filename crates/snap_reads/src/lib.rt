@@ -7,5 +7,5 @@ mod laws;
 mod read;
 
 pub use head::snapshot;
-pub use laws::{one_block_of_a_snapshot, what_a_read_shows};
+pub use laws::{one_block_of_a_snapshot, what_a_read_shows, what_a_snapshot_read_shows};
 pub use read::{read_held, read_snap};

@@ -1,6 +1,6 @@
 use Rattle.std.proofs.Common.{◌≡◌, ◌≤◌, ◌*◌, take}
 use Rattle.flat_tree.specs.declared.limits.TheConstants.{MAX_CORE_BYTES}
-use Rattle.proof_check.specs.Early.{twig_bytes}
+use Rattle.root_stack.specs.Stack.{twig_bytes}
 use Rattle.proof_judge.proofs.numbers.bytes_of_twigs.Given as goal
 
 abbrev pub invariant-loop-twig : goal.invariant-loop-twig

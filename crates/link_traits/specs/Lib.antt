@@ -1,0 +1,5 @@
+pub mod Links
+pub mod LinkCalls
+pub mod Dials
+pub mod Memory
+pub mod Standard

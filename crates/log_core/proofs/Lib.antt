@@ -1,0 +1,10 @@
+pub mod ShownReads
+pub mod ReadLemmas
+pub mod ChangeLemmas
+pub mod CutLemmas
+pub mod ClearLemmas
+pub mod StartLemmas
+pub mod ShownParts
+pub mod KeptParts
+pub mod FitLemmas
+pub mod BatchLemmas

@@ -1,0 +1,4 @@
+pub mod EventLemmas
+mod Closing
+mod Finding
+mod Moves
